@@ -1,0 +1,4 @@
+pub mod Cases
+pub mod Until
+pub mod Splice
+pub mod Writes
