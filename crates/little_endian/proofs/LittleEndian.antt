@@ -1,0 +1,105 @@
+-- The laws of little-endian numbers, once, over the width: what is written is read back, wherever it stands, and other bytes stay.
+-- Assumes nothing.
+use mathlib.Core.Path.{_≡_, refl, sym, ap, _∙_}
+use mathlib.Core.Bool.{true, false}
+use mathlib.Core.List.{List, [], _∷_, _++_}
+use Prim.Native.Nat.{ℕ, zero, suc, _+_, _-_, _*_, _/_, _%_, _^_, _≤_, _<_}
+use native.Mathlib.Nat.{pow-suc, pow-succ', add-zero, zero-add, add-suc, suc-add, add-assoc, one-mul, mul-add, mul-assoc, zero-lt-suc, div-lt-iff-lt-mul}
+use native.Mathlib.Numerals.{towards-suc}
+use native.Mathlib.Omega.{arith}
+use lib.Dec.{leb}
+use borrow.Author.Tests.{le-leb, lt-leb}
+use lib.ListN.{length, getD, take, drop, length-append, length-take}
+use lib.Seq.{getD-append-seam, append-snoc}
+use Rattle.lists.specs.Splice.{part, splice}
+use Rattle.lists.proofs.Splice.{splice-fits, splice-before, splice-behind}
+use Rattle.lists.proofs.Cases.{by-order}
+use Rattle.little_endian.specs.declared.U32At.the-variants as U32At
+use Rattle.little_endian.specs.declared.U64At.the-variants as U64At
+use Rattle.little_endian.specs.LittleEndian.{leBytes, leAt, standAt, u32At, u64At}
+
+-- a number of n bytes has n bytes
+pub le-bytes-length : (n v : ℕ) → length (leBytes n v) ≡ n
+unfolding leBytes
+le-bytes-length zero v = refl
+le-bytes-length (suc n) v = ap suc (le-bytes-length n (v / 256))
+
+-- without its lowest byte a number is one byte shorter
+less : (v n : ℕ) → v < 256 ^ suc n → v / 256 < 256 ^ n
+less v n h = div-lt-iff-lt-mul (zero-lt-suc 255) .1 (rw pow-suc at h)
+
+-- a number's bytes, wherever they stand, spell it
+pub le-read : (n v : ℕ) (pre post : List ℕ) (at : ℕ) → at ≡ length pre → v < 256 ^ n → leAt n (pre ++ (leBytes n v ++ post)) at ≡ v
+unfolding leAt leBytes
+le-read zero v pre post at e h = omega arith
+le-read (suc n) v pre post at e h =
+    let rest : List ℕ = leBytes n (v / 256) ++ post in
+    let lowest : getD (pre ++ (v % 256 ∷ rest)) at 0 ≡ v % 256 = rw e (getD-append-seam pre (v % 256) rest 0) in
+    let others : leAt n (pre ++ (v % 256 ∷ rest)) (suc at) ≡ v / 256 =
+    rw (← append-snoc pre (v % 256) rest)
+    (le-read n (v / 256) (pre ++ (v % 256 ∷ [])) post (suc at) (rw length-append (omega arith)) (less v n h)) in
+    omega arith
+
+-- what is written is read back, and everything before and behind it stays
+pub record Kept (n v at : ℕ) (s : List ℕ) : Type 0 where
+  pub back : leAt n (splice at (leBytes n v) s) at ≡ v
+  pub before : (a k : ℕ) → a + k ≤ at → part a k (splice at (leBytes n v) s) ≡ part a k s
+  pub behind : (a : ℕ) → at + n ≤ a → drop a (splice at (leBytes n v) s) ≡ drop a s
+
+pub write-read : (n v at : ℕ) (s : List ℕ) → at + n ≤ length s → v < 256 ^ n → Kept n v at s
+write-read n v at s fits small =
+    let long = le-bytes-length n v in
+    let front : length (take at s) ≡ at = length-take at s ∙ omega arith in
+    record {
+      back = ap (λ (l : List ℕ). leAt n l at) (splice-fits at (leBytes n v) s (omega arith))
+          ∙ le-read n v (take at s) (drop (at + length (leBytes n v)) s) at (sym front) small;
+      before = λ a k h. splice-before at (leBytes n v) s a k h;
+      behind = λ a h. splice-behind at (leBytes n v) s a (omega arith);
+    }
+
+-- two lists with the same bytes there spell the same number
+pub le-agree : (n : ℕ) (s t : List ℕ) (at : ℕ) → ((j : ℕ) → at ≤ j → j < at + n → getD s j 0 ≡ getD t j 0) → leAt n s at ≡ leAt n t at
+unfolding leAt
+le-agree zero s t at h = refl
+le-agree (suc n) s t at h =
+    rw (h at (omega arith) (omega arith), le-agree n s t (suc at) (λ j l g. h j (omega arith) (omega arith)))
+
+-- two neighbouring numbers are one
+pub le-join : (m n : ℕ) (s : List ℕ) (at : ℕ) → leAt (m + n) s at ≡ leAt m s at + 256 ^ m * leAt n s (at + m)
+unfolding leAt
+le-join zero n s at = simp (zero-add, add-zero, one-mul)
+le-join (suc m) n s at =
+    let step : leAt (suc m + n) s at ≡ getD s at 0 + 256 * leAt (m + n) s (suc at) = ap (λ (k : ℕ). leAt k s at) (suc-add m n) in
+    step ∙ rw (le-join m n s (suc at), add-suc, suc-add, pow-succ', mul-add, mul-assoc) (sym (add-assoc _ _ _))
+
+-- four bytes as a sum
+pub le-four : (s : List ℕ) (at a b c d : ℕ) → a ≡ getD s at 0 → b ≡ getD s (at + 1) 0 → c ≡ getD s (at + 2) 0 → d ≡ getD s (at + 3) 0
+    → a + 256 * (b + 256 * (c + 256 * d)) ≡ leAt 4 s at
+unfolding leAt
+le-four s at a b c d ea eb ec ed = simp (ea, eb, ec, ed, towards-suc, add-zero)
+
+-- that n bytes stand from `at` on, by a difference that does not wrap
+pub stand-shift : (at n len : ℕ) → at ≤ len → leb n (len - at) ≡ leb (at + n) len
+stand-shift at n len h =
+    by-order n (len - at) (λ g. le-leb n (len - at) g ∙ sym (le-leb (at + n) len (omega arith)))
+    (λ g. lt-leb n (len - at) g ∙ sym (lt-leb (at + n) len (omega arith)))
+
+-- the answers of reading, by whether the bytes stand
+pub u32-short : (s : List ℕ) (at : ℕ) → standAt 4 s at ≡ false → u32At s at ≡ U32At.Short
+unfolding u32At
+u32-short s at h = simp h
+
+-- the u32 that stands there
+pub u32-value : (s : List ℕ) (at : ℕ) → standAt 4 s at ≡ true → u32At s at ≡ U32At.Value (leAt 4 s at)
+unfolding u32At
+u32-value s at h = simp h
+
+-- a u64 of which bytes are missing
+pub u64-short : (s : List ℕ) (at : ℕ) → standAt 8 s at ≡ false → u64At s at ≡ U64At.Short
+unfolding u64At
+u64-short s at h = simp h
+
+-- the u64 that stands there, by its two halves
+pub u64-halves : (s : List ℕ) (at : ℕ) → standAt 8 s at ≡ true → u64At s at ≡ U64At.Value (leAt 4 s at + 4294967296 * leAt 4 s (at + 4))
+unfolding u64At
+u64-halves s at h = simp h (ap U64At.Value (le-join 4 4 s at))
