@@ -6,7 +6,7 @@ use Prim.Native.Nat.{ℕ, zero, suc, _+_, _-_, _*_, _≤_, _<_}
 use native.Mathlib.Nat.{add-zero, add-assoc, mul-le-mul-right, suc-mul}
 use native.Mathlib.Omega.{arith}
 use lib.ListN.{length, take, drop, replicate, length-append, length-take, length-drop, take-append-drop, drop-of-length-le}
-use lib.Seq.{take-all, take-at, drop-at, take-append-add, drop-append-add, take-take, drop-drop, take-add}
+use lib.Seq.{take-all, take-at, drop-at, take-append-le, take-append-add, drop-append-add, take-take, drop-drop, take-add}
 use Rattle.lists.specs.Splice.{part, splice, slotOf}
 use Rattle.lists.proofs.Cases.{by-order}
 
@@ -115,21 +115,28 @@ pub split-same : {A : Type 0} (at : ℕ) (k l : List A) → take at k ≡ take a
 split-same at k l p q = sym (take-append-drop at k) ∙ rw (p, q) (take-append-drop at l)
 
 -- a piece right behind another: one piece
-pub splice-join : {A : Type 0} (at : ℕ) (xs ys l : List A) → at + (length xs + length ys) ≤ length l
-    → splice (at + length xs) ys (splice at xs l) ≡ splice at (xs ++ ys) l
-splice-join at xs ys l h =
-    let both = length-append xs ys in
+pub splice-join : {A : Type 0} (at : ℕ) (xs ys l : List A) → splice (at + length xs) ys (splice at xs l) ≡ splice at (xs ++ ys) l
+unfolding splice
+splice-join at xs ys l =
     let one : List _ = splice at xs l in
     let long = splice-length at xs l in
-    let front : take (at + length xs) one ≡ take at l ++ xs =
-    take-add at (length xs) one ∙ rw (splice-front at xs l, splice-inside at xs l (omega arith)) refl in
-    let back : drop (at + length xs + length ys) one ≡ drop (at + length (xs ++ ys)) l =
-    splice-behind at xs l (at + length xs + length ys) (omega arith) ∙ rw (both, add-assoc) refl in
+    let both = length-append xs ys in
     let rest : List _ = drop (at + length (xs ++ ys)) l in
-    splice-fits (at + length xs) ys one (omega arith)
-    ∙ ap (λ (k : List _). k ++ (ys ++ drop (at + length xs + length ys) one)) front
-    ∙ ap (λ (k : List _). (take at l ++ xs) ++ (ys ++ k)) back ∙ append-assoc (take at l) xs (ys ++ rest)
-    ∙ ap (λ (k : List _). take at l ++ k) (sym (append-assoc xs ys rest)) ∙ sym (splice-fits at (xs ++ ys) l (omega arith))
+    by-order (at + length xs) (length l)
+    (λ h.
+    let front : take (at + length xs) one ≡ take at l ++ xs =
+    take-add at (length xs) one ∙ rw (splice-front at xs l, splice-inside at xs l h) refl in
+    let back : drop (at + length xs + length ys) one ≡ rest =
+    splice-behind at xs l (at + length xs + length ys) (omega arith) ∙ rw (both, add-assoc) refl in
+    let room : length l - at ≡ length xs + (length l - (at + length xs)) = omega arith in
+    rw (front, back, long, room, take-append-add xs ys (length l - (at + length xs)), append-assoc, append-assoc) refl)
+    (λ h.
+    splice-outside (at + length xs) ys one (omega arith)
+    ∙ rw (
+      take-append-le (length l - at) xs ys (omega arith),
+      drop-of-length-le l {i = at + length xs} (omega arith),
+      drop-of-length-le l {i = at + length (xs ++ ys)} (omega arith),
+    ) refl)
 
 -- a front that ends behind the piece
 pub splice-take : {A : Type 0} (a b : ℕ) (xs l : List A) → a + length xs ≤ b → b ≤ length l
