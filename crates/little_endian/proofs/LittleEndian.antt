@@ -13,7 +13,7 @@ use lib.ListN.{length, getD, take, drop, length-append, length-take}
 use lib.Seq.{getD-append-seam, append-snoc}
 use Rattle.lists.specs.Splice.{part, splice}
 use Rattle.lists.proofs.Splice.{splice-fits, splice-before, splice-behind}
-use Rattle.lists.proofs.Cases.{by-order}
+use Rattle.lists.proofs.Cases.{by-test, by-order}
 use Rattle.little_endian.specs.declared.U32At.the-variants as U32At
 use Rattle.little_endian.specs.declared.U64At.the-variants as U64At
 use Rattle.little_endian.specs.LittleEndian.{leBytes, leAt, standAt, u32At, u64At}
@@ -103,3 +103,27 @@ u64-short s at h = simp h
 pub u64-halves : (s : List ℕ) (at : ℕ) → standAt 8 s at ≡ true → u64At s at ≡ U64At.Value (leAt 4 s at + 4294967296 * leAt 4 s (at + 4))
 unfolding u64At
 u64-halves s at h = simp h (ap U64At.Value (le-join 4 4 s at))
+
+-- a u32 that was read is what the four bytes spell
+pub u32-is : (s : List ℕ) (at v : ℕ) → u32At s at ≡ U32At.Value v → leAt 4 s at ≡ v
+u32-is s at v e =
+    by-test (standAt 4 s at) (λ h. let q = sym (u32-value s at h) ∙ e in cc)
+    (λ h. let q = sym (u32-short s at h) ∙ e in absurd (let z : _≡_ {A = ℕ} 0 1 = cc in omega arith))
+
+-- a u32 whose bytes stand is read
+pub u32-stands : (s : List ℕ) (at : ℕ) → at + 4 ≤ length s → u32At s at ≡ U32At.Short → ⊥
+u32-stands s at h e =
+    let q = sym (u32-value s at (le-leb (at + 4) (length s) h)) ∙ e in
+    let z : _≡_ {A = ℕ} 0 1 = cc in omega arith
+
+-- a u64 that was read is what the eight bytes spell
+pub u64-is : (s : List ℕ) (at v : ℕ) → u64At s at ≡ U64At.Value v → leAt 8 s at ≡ v
+u64-is s at v e =
+    by-test (standAt 8 s at) (λ h. let q = sym (u64-halves s at h) ∙ e in le-join 4 4 s at ∙ cc)
+    (λ h. let q = sym (u64-short s at h) ∙ e in absurd (let z : _≡_ {A = ℕ} 0 1 = cc in omega arith))
+
+-- a u64 whose bytes stand is read
+pub u64-stands : (s : List ℕ) (at : ℕ) → at + 8 ≤ length s → u64At s at ≡ U64At.Short → ⊥
+u64-stands s at h e =
+    let q = sym (u64-halves s at (le-leb (at + 8) (length s) h)) ∙ e in
+    let z : _≡_ {A = ℕ} 0 1 = cc in omega arith
