@@ -1,0 +1,90 @@
+-- Recovery, as document 01 says it: 1, 11 to 15, the scan (16 to 23), and what an accepted scan leaves. Assumes nothing.
+use mathlib.Core.List.{List, [], _∷_, _++_}
+use mathlib.Core.Bool.{Bool, true, false, _&&_, _||_, not}
+use Prim.Native.Nat.{ℕ, _+_, _-_, _*_, _/_}
+use lib.ListN.{length, drop, replicate}
+use lib.Dec.{ltb, leb, eqb}
+use Rattle.lists.specs.Choice.{pick, _⇒_, first}
+use Rattle.lists.specs.Splice.{splice}
+use Rattle.seglog.specs.declared.Segment.{Segment}
+use Rattle.seglog.specs.Log.{View, emptyOf, logOf, zeroLog, headOf, frontOf}
+use Rattle.seglog.specs.New.{roomyOf}
+use Rattle.recovery_walk.specs.declared.ImageRow.{ImageRow}
+use Rattle.recovery_walk.specs.Images as Walk
+use Rattle.recovery_walk.specs.Images.{Outcome}
+use Rattle.recovery_walk.specs.Rows.{rowsAll, penOf}
+use Rattle.recovery_walk.specs.Scan.{scanOf}
+use Rattle.recovery.specs.declared.Recovered.{Recovered}
+use Rattle.recovery.specs.ImageRows.{sortRows, rowsFit, lowestZero, oneApart}
+
+-- a recovery's outcome: a refusal's number, or the log, the area and the words that the index begins with
+pub data Recovery : Type 0 where
+  refused : ℕ → Recovery
+  recovered : View → (area words : List ℕ) → Recovery
+
+-- ---- what an accepted scan leaves
+
+-- the segment holds a record with s <= id <= e
+unfoldable pub holdsLive : ℕ → ℕ → Segment → Bool
+holdsLive s e g = leb (g .min) e && leb s (g .max)
+
+-- "segments holding a live record are kept"
+unfoldable pub keptOf : ℕ → ℕ → List Segment → List Segment
+keptOf s e [] = []
+keptOf s e (g ∷ gs) = pick (holdsLive s e g) (g ∷ keptOf s e gs) (keptOf s e gs)
+
+-- "the head's max is e; the head's size is e's padded end", x
+abbrev pub closedAt : Segment → ℕ → ℕ → Segment
+closedAt g e x = record { id = g .id; slot = g .slot; size = x; min = g .min; max = e }
+
+-- "zeros written where padding was missing": from the head's size to e's padded end, and no other byte
+abbrev pub paddedHead : ℕ → List ℕ → Segment → ℕ → List ℕ
+paddedHead c area g x = splice (g .slot * c + g .size) (replicate (x - g .size) 0) area
+
+-- the log with the head g after hs
+abbrev pub closedOf : (k c m : ℕ) → List ℕ → (s e x : ℕ) → List ℕ → List Segment → Segment → Recovery
+closedOf k c m area s e x words hs g =
+    recovered (record { k = k; c = c; m = m; start = s; end = e; segs = hs ++ (closedAt g e x ∷ []) }) (paddedHead c area g x) words
+
+-- a scan's outcome: its fault, or the kept segments, closed at e
+abbrev pub outcomeOf : (k c m : ℕ) → List ℕ → (s e : ℕ) → List ImageRow → Outcome → Recovery
+outcomeOf k c m area s e rows (Walk.refused n) = refused n
+outcomeOf k c m area s e rows (Walk.walked d gs) =
+    closedOf k c m area s e (d .head) (rowsAll area c s e rows penOf) (frontOf (keptOf s e gs)) (headOf (keptOf s e gs))
+
+-- ---- recovery
+
+-- refusal 11: "exactly one of s, e is 0"
+unfoldable pub oneZero : ℕ → ℕ → Bool
+oneZero s e = (eqb s 0 && not (eqb e 0)) || (not (eqb s 0) && eqb e 0)
+
+-- 1, 11 to 15, the empty log for the range (0, 0), else the scan of the sorted rows; `room` is the index's length in words
+unfoldable pub recoveryOf : (k c m : ℕ) → List ℕ → List ImageRow → (s e room : ℕ) → Recovery
+recoveryOf k c m area rows s e room =
+    first
+    ((not (roomyOf k c m (length area)) ⇒ refused 1)
+    ∷ (oneZero s e ⇒ refused 11)
+    ∷ (ltb e s ⇒ refused 12)
+    ∷ (not (rowsFit k c rows) ⇒ refused 13)
+    ∷ (lowestZero (sortRows rows) ⇒ refused 14)
+    ∷ (not (oneApart (sortRows rows)) ⇒ refused 15)
+    ∷ (eqb s 0 ⇒ recovered (emptyOf k c m) area [])
+    ∷ [])
+    (outcomeOf k c m area s e (sortRows rows) (scanOf area c s e (sortRows rows) room))
+
+-- ---- as the code answers
+
+-- the answer: "it is the log given, else all zeros"; the number of index rows written
+abbrev pub recoveryAnswer : Recovery → Recovered
+recoveryAnswer (refused n) = record { refusal = n; rows = 0; log = zeroLog }
+recoveryAnswer (recovered a area words) = record { refusal = 0; rows = length words / 4; log = logOf a }
+
+-- the area afterwards: a refusal changes nothing
+abbrev pub recoveryArea : List ℕ → Recovery → List ℕ
+recoveryArea area (refused n) = area
+recoveryArea area (recovered a after words) = after
+
+-- the index afterwards: a refusal changes nothing; "later words of the index keep their content"
+abbrev pub recoveryIndex : List ℕ → Recovery → List ℕ
+recoveryIndex index (refused n) = index
+recoveryIndex index (recovered a area words) = words ++ drop (length words) index

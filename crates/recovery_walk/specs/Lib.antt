@@ -1,0 +1,4 @@
+pub mod Step
+pub mod Images
+pub mod Rows
+pub mod Scan
