@@ -2,3 +2,6 @@ pub mod Words
 pub mod Digits
 pub mod Written
 pub mod Steps
+pub mod RoundTrip
+pub mod Unique
+pub mod Specimens

@@ -2,17 +2,17 @@
 -- Assumes nothing.
 use mathlib.Core.Path.{_≡_, refl, sym, ap, _∙_}
 use mathlib.Core.Bool.{Bool, true, false, _&&_, false≢true}
-use mathlib.Core.List.{List, [], _∷_}
+use mathlib.Core.List.{List, [], _∷_, _++_}
 use Prim.Native.Nat.{ℕ, _+_, _-_, _≤_, _<_}
 use native.Mathlib.Omega.{arith}
-use lib.ListN.{length, getD, take, drop, length-take, length-drop}
-use lib.Seq.{ext-getD, getD-take, getD-drop, take-all}
+use lib.ListN.{length, getD, take, drop, length-take, length-drop, length-append}
+use lib.Seq.{ext-getD, getD-take, getD-drop, take-all, take-append-seam, drop-append-seam}
 use lib.Dec.{eqb}
 use borrow.Author.Tests.{eqb-true, eq-eqb}
 use Rattle.lists.specs.Splice.{part}
 use Rattle.lists.proofs.Cases.{by-test}
 use Rattle.lists.proofs.Splice.{part-length}
-use Rattle.segment_filename.specs.Words.{same, startsWith, endsWith}
+use Rattle.segment_filename.specs.Words.{same, startsWith, endsWith, behind, before}
 
 -- two tests that both hold
 pub and-both : (a b : Bool) → a && b ≡ true → (a ≡ true) × (b ≡ true)
@@ -89,3 +89,25 @@ module _ (s word : List ℕ) where
 -- a part up to the end is all that is left
 pub part-rest : (k : ℕ) (l : List ℕ) → part k (length l - k) l ≡ drop k l
 part-rest k l = take-all (length l - k) (drop k l) (simp length-drop (omega arith))
+
+module _ (w l : List ℕ) where
+  -- a word with anything behind it begins with it
+  pub starts-append : startsWith w (w ++ l) ≡ true
+  unfolding startsWith
+  starts-append = rw (take-append-seam w l) (same-refl w)
+
+  -- and without it is what stands behind it
+  pub behind-append : behind w (w ++ l) ≡ l
+  behind-append = drop-append-seam w l
+
+  front-length : length (l ++ w) - length w ≡ length l
+  front-length = rw (length-append l w) (omega arith)
+
+  -- a word with anything before it ends with it
+  pub ends-append : endsWith w (l ++ w) ≡ true
+  unfolding endsWith
+  ends-append = rw (front-length, drop-append-seam l w) (same-refl w)
+
+  -- and without it is what stands before it
+  pub before-append : before w (l ++ w) ≡ l
+  before-append = rw (front-length) (take-append-seam l w)
