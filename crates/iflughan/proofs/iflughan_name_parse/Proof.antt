@@ -1,0 +1,19 @@
+-- `iflughan::iflughan_name_parse` meets its contract: `parse`'s, with its answer as numbers.
+-- Assumes nothing.
+use mathlib.Core.Path.{_≡_, ap, _∙_}
+use borrow.Author.Needs.{needs}
+use Rattle.iflughan.specs.Names.{parsedName}
+use Rattle.iflughan.proofs.iflughan_name_parse.Statement.{statement}
+use Rattle.iflughan.proofs.iflughan_name_parse.Tie as tie
+
+parse-requires : tie.Need-parse-requires
+parse-requires c κs = search needs
+
+parsed-name-requires : tie.Need-parsed-name-requires
+parsed-name-requires c κs = search needs
+
+returns : tie.Need-returns
+returns c = c .parsed-name .ensures ∙ ap parsedName (c .before .parse .ensures)
+
+pub iflughan-name-parse-spec : {M : Type 1} → statement M
+iflughan-name-parse-spec = tie.close (tie.spec parse-requires parsed-name-requires returns)

@@ -1,0 +1,24 @@
+-- `iflughan::iflughan_name_write` meets its contract: `format`'s, with its answer as numbers.
+-- Assumes nothing.
+use mathlib.Core.Path.{_≡_, ap, _∙_}
+use borrow.Author.Needs.{needs}
+use Rattle.iflughan.specs.Names.{writtenName}
+use Rattle.iflughan.proofs.iflughan_name_write.Statement.{statement}
+use Rattle.iflughan.proofs.iflughan_name_write.Tie as tie
+
+format-requires : tie.Need-format-requires
+format-requires c κs = search needs
+
+written-name-requires : tie.Need-written-name-requires
+written-name-requires c κs = search needs
+
+same-length : tie.Need-same-length
+same-length c = search needs
+
+returns : tie.Need-returns
+returns c =
+    let f = c .before .before .before .format in (c .written-name .ensures ∙ ap writtenName (f .ensures .0), f .ensures .1)
+
+pub iflughan-name-write-spec : {M : Type 1} → statement M
+iflughan-name-write-spec =
+    tie.close (tie.spec format-requires written-name-requires same-length returns)

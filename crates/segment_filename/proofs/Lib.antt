@@ -1,0 +1,7 @@
+pub mod Words
+pub mod Digits
+pub mod Written
+pub mod Steps
+pub mod RoundTrip
+pub mod Unique
+pub mod Specimens

@@ -1,0 +1,102 @@
+-- What is written is read back: names, and the buffer that `format` leaves.
+-- Assumes nothing.
+use mathlib.Core.Path.{_≡_, refl, sym, ap, _∙_}
+use mathlib.Core.Bool.{Bool, true, _&&_}
+use mathlib.Core.List.{List, _++_, append-assoc}
+use Prim.Native.Nat.{ℕ, _+_, _^_, _≤_, _<_}
+use native.Mathlib.Omega.{arith}
+use lib.ListN.{length, take, drop}
+use lib.Dec.{leb, ltb}
+use borrow.Author.Tests.{le-leb, ltb-false, eqb-true}
+use Rattle.lists.specs.Choice.{pick}
+use Rattle.lists.specs.Splice.{splice}
+use Rattle.lists.proofs.Cases.{by-test, by-order}
+use Rattle.lists.proofs.Splice.{splice-inside, splice-behind}
+use Rattle.segment_filename.specs.declared.Formatted.the-variants.{Length}
+use Rattle.segment_filename.specs.declared.Parsed.the-variants.{Id, NotU32}
+use Rattle.segment_filename.specs.Words.{startsWith, endsWith, behind, before}
+use Rattle.segment_filename.specs.Digits.{digits, allDigits, valueFrom, unsigned, isU32, valueOf}
+use Rattle.segment_filename.specs.Format.{dot, suffix, nameOf, formattedOf, formattedInto}
+use Rattle.segment_filename.specs.Parse.{withoutPrefix, withoutSuffix, idBytes, parsedOf}
+use Rattle.segment_filename.proofs.Words.{starts-append, behind-append, ends-append, before-append}
+use Rattle.segment_filename.proofs.Digits.{digits-length, digits-are-digits, digits-value, digits-unsigned, digits-injective}
+use Rattle.segment_filename.proofs.Written.{name-length, given-empty, given-short, given-fits}
+use Rattle.segment_filename.proofs.Steps.{step-35}
+
+-- an id of 32 bits has ten digits at most
+id-places : (id : ℕ) → id < 2 ^ 32 → id < 10 ^ 10
+id-places id h = omega arith
+
+module _ (prefix : List ℕ) (id : ℕ) where
+  -- a name without its prefix, as what stands before its suffix
+  name-rest : withoutPrefix prefix (nameOf prefix id) ≡ (dot ++ digits 10 id) ++ suffix
+  unfolding nameOf
+  name-rest = behind-append prefix (dot ++ (digits 10 id ++ suffix)) ∙ sym (append-assoc dot (digits 10 id) suffix)
+
+  name-stem : withoutSuffix prefix (nameOf prefix id) ≡ dot ++ digits 10 id
+  name-stem = ap (before suffix) name-rest ∙ before-append suffix (dot ++ digits 10 id)
+
+  -- the bytes of a name's id are its ten digits
+  pub name-digits : idBytes prefix (nameOf prefix id) ≡ digits 10 id
+  name-digits = ap (behind dot) name-stem ∙ behind-append dot (digits 10 id)
+
+  name-begins : startsWith prefix (nameOf prefix id) ≡ true
+  unfolding nameOf
+  name-begins = starts-append prefix (dot ++ (digits 10 id ++ suffix))
+
+  name-ends : endsWith suffix (withoutPrefix prefix (nameOf prefix id)) ≡ true
+  name-ends = ap (endsWith suffix) name-rest ∙ ends-append suffix (dot ++ digits 10 id)
+
+  name-dotted : startsWith dot (withoutSuffix prefix (nameOf prefix id)) ≡ true
+  name-dotted = ap (startsWith dot) name-stem ∙ starts-append dot (digits 10 id)
+
+  -- the name of a segment is read as its id, for any prefix that isn't empty and any id of 32 bits
+  pub parse-name : (length prefix ≡ 0 → ⊥) → id < 2 ^ 32 → parsedOf prefix (nameOf prefix id) ≡ Id id
+  parse-name some small =
+      let whole : unsigned (digits 10 id) ≡ digits 10 id = digits-unsigned (digits 10 id) (digits-are-digits 10 id) in
+      let value : valueOf (digits 10 id) ≡ id = ap (valueFrom 0) whole ∙ digits-value 10 id (id-places id small) in
+      let good : isU32 (digits 10 id) ≡ true =
+      rw (value, le-leb id 4294967295 (omega arith)) (rw (whole, digits-are-digits 10 id) refl) in
+      step-35 prefix (nameOf prefix id) some name-begins name-ends name-dotted (ap length name-digits ∙ digits-length 10 id)
+      ∙ rw (name-digits, good, value) refl
+
+-- two ids give different names
+pub format-injective : (prefix : List ℕ) (a b : ℕ) → a < 2 ^ 32 → b < 2 ^ 32 → nameOf prefix a ≡ nameOf prefix b → a ≡ b
+format-injective prefix a b h g e =
+    digits-injective 10 a b (id-places a h) (id-places b g) (sym (name-digits prefix a) ∙ ap (idBytes prefix) e ∙ name-digits prefix b)
+
+module _ (prefix : List ℕ) (id : ℕ) (out : List ℕ) (n : ℕ) (accepted : formattedOf prefix (length out) ≡ Length n) where
+  -- an accepted prefix isn't empty
+  pub format-prefix : length prefix ≡ 0 → ⊥
+  format-prefix h =
+      let refused = given-empty prefix id out h .0 in let z : _≡_ {A = ℕ} 0 1 = cc in omega arith
+
+  -- an accepted name has room
+  pub format-room : length prefix + 15 ≤ length out
+  format-room =
+      by-order (length prefix + 15) (length out) (λ h. h)
+      (λ h. let refused = given-short prefix id out format-prefix h .0 in let z : _≡_ {A = ℕ} 0 1 = cc in absurd (omega arith))
+
+  -- the answer is the name's length
+  pub format-length : n ≡ length (nameOf prefix id)
+  format-length =
+      let fits = given-fits prefix id out format-prefix format-room .0 in
+      let m : length prefix + 15 ≡ n = cc in sym m ∙ sym (name-length prefix id)
+
+  into : formattedInto prefix id out ≡ splice 0 (nameOf prefix id) out
+  into = sym (given-fits prefix id out format-prefix format-room .1)
+
+  room : 0 + length (nameOf prefix id) ≤ length out
+  room = omega (arith, name-length prefix id, format-room)
+
+  -- so many bytes of the buffer are the name
+  pub format-written : take n (formattedInto prefix id out) ≡ nameOf prefix id
+  format-written = rw (into, format-length) (splice-inside 0 (nameOf prefix id) out room)
+
+  -- later bytes stay
+  pub format-later : drop n (formattedInto prefix id out) ≡ drop n out
+  format-later = rw into (splice-behind 0 (nameOf prefix id) out n (omega (arith, format-length)))
+
+  -- what is written is read back as the same id
+  pub parse-format : id < 2 ^ 32 → parsedOf prefix (take n (formattedInto prefix id out)) ≡ Id id
+  parse-format small = rw format-written (parse-name prefix id format-prefix small)

@@ -1,0 +1,66 @@
+-- The laws of a written name: its length, its pieces, and the cases of what `format` answers and leaves in the buffer.
+-- Assumes nothing.
+use mathlib.Core.Path.{_≡_, refl, sym, ap, _∙_}
+use mathlib.Core.List.{List, _++_, append-assoc}
+use Prim.Native.Nat.{ℕ, _+_, _≤_, _<_}
+use native.Mathlib.Omega.{arith}
+use lib.ListN.{length, length-append}
+use borrow.Author.Tests.{eq-eqb, ne-eqb, lt-ltb, le-ltb}
+use Rattle.lists.specs.Splice.{splice}
+use Rattle.lists.proofs.Splice.{splice-join}
+use Rattle.segment_filename.specs.declared.Formatted.{Formatted}
+use Rattle.segment_filename.specs.declared.Formatted.the-variants.{Length, EmptyPrefix, BufferShort}
+use Rattle.segment_filename.specs.Digits.{digits}
+use Rattle.segment_filename.specs.Format.{dot, suffix, nameOf, formatRefusal, formattedOf, formattedInto}
+use Rattle.segment_filename.proofs.Digits.{digits-length}
+
+-- a name is as long as its prefix and 15 bytes
+pub name-length : (prefix : List ℕ) (id : ℕ) → length (nameOf prefix id) ≡ length prefix + 15
+unfolding nameOf
+name-length prefix id = simp (length-append, digits-length) (omega arith)
+
+-- a piece right behind one at the front: one piece at the front
+splice-next : (n : ℕ) (xs ys out : List ℕ) → length xs ≡ n → n + length ys ≤ length out
+    → splice n ys (splice 0 xs out) ≡ splice 0 (xs ++ ys) out
+splice-next n xs ys out long fits =
+    let place : n ≡ 0 + length xs = omega arith in
+    ap (λ (k : ℕ). splice k ys (splice 0 xs out)) place ∙ splice-join 0 xs ys out (omega arith)
+
+-- the four pieces of a name, written one behind the other, are the name
+pub name-pieces : (prefix : List ℕ) (id : ℕ) (out : List ℕ) → length prefix + 15 ≤ length out
+    → splice (length prefix + 11) suffix (splice (length prefix + 1) (digits 10 id) (splice (length prefix) dot (splice 0 prefix out)))
+    ≡ splice 0 (nameOf prefix id) out
+unfolding nameOf
+name-pieces prefix id out fits =
+    let n : ℕ = length prefix in
+    let ten : List ℕ = digits 10 id in
+    let long-ten = digits-length 10 id in
+    let long-dot : length (prefix ++ dot) ≡ n + 1 = length-append prefix dot in
+    let long-id : length ((prefix ++ dot) ++ ten) ≡ n + 11 = length-append (prefix ++ dot) ten ∙ omega arith in
+    ap (λ (l : List ℕ). splice (n + 11) suffix (splice (n + 1) ten l)) (splice-next n prefix dot out refl (omega arith))
+    ∙ ap (splice (n + 11) suffix) (splice-next (n + 1) (prefix ++ dot) ten out long-dot (omega arith))
+    ∙ splice-next (n + 11) ((prefix ++ dot) ++ ten) suffix out long-id (omega arith)
+    ∙ ap (λ (l : List ℕ). splice 0 l out) (append-assoc (prefix ++ dot) ten suffix ∙ append-assoc prefix dot (ten ++ suffix))
+
+module _ (prefix : List ℕ) (id : ℕ) (out : List ℕ) where
+  -- an answer and a buffer that the definitions give
+  abbrev pub Given : Formatted → List ℕ → Type 0
+  Given a after = (a ≡ formattedOf prefix (length out)) × (after ≡ formattedInto prefix id out)
+
+  -- 30
+  pub given-empty : length prefix ≡ 0 → Given EmptyPrefix out
+  unfolding formattedOf formattedInto formatRefusal
+  given-empty h = let t = eq-eqb (length prefix) 0 h in (simp t, simp t)
+
+  -- 36
+  pub given-short : (length prefix ≡ 0 → ⊥) → length out < length prefix + 15 → Given BufferShort out
+  unfolding formattedOf formattedInto formatRefusal
+  given-short h g =
+      let t = ne-eqb (length prefix) 0 h in let u = lt-ltb (length out) (length prefix + 15) g in (simp (t, u), simp (t, u))
+
+  -- accepted
+  pub given-fits : (length prefix ≡ 0 → ⊥) → length prefix + 15 ≤ length out
+      → Given (Length (length prefix + 15)) (splice 0 (nameOf prefix id) out)
+  unfolding formattedOf formattedInto formatRefusal
+  given-fits h g =
+      let t = ne-eqb (length prefix) 0 h in let u = le-ltb (length out) (length prefix + 15) g in (simp (t, u), simp (t, u))
