@@ -1,21 +1,19 @@
 -- What is written is read back: names, and the buffer that `format` leaves.
 -- Assumes nothing.
 use mathlib.Core.Path.{_≡_, refl, sym, ap, _∙_}
-use mathlib.Core.Bool.{Bool, true, _&&_}
+use mathlib.Core.Bool.{true}
 use mathlib.Core.List.{List, _++_, append-assoc}
 use Prim.Native.Nat.{ℕ, _+_, _^_, _≤_, _<_}
 use native.Mathlib.Omega.{arith}
 use lib.ListN.{length, take, drop}
-use lib.Dec.{leb, ltb}
-use borrow.Author.Tests.{le-leb, ltb-false, eqb-true}
-use Rattle.lists.specs.Choice.{pick}
+use borrow.Author.Tests.{le-leb}
 use Rattle.lists.specs.Splice.{splice}
-use Rattle.lists.proofs.Cases.{by-test, by-order}
+use Rattle.lists.proofs.Cases.{by-order}
 use Rattle.lists.proofs.Splice.{splice-inside, splice-behind}
 use Rattle.segment_filename.specs.declared.Formatted.the-variants.{Length}
-use Rattle.segment_filename.specs.declared.Parsed.the-variants.{Id, NotU32}
+use Rattle.segment_filename.specs.declared.Parsed.the-variants.{Id}
 use Rattle.segment_filename.specs.Words.{startsWith, endsWith, behind, before}
-use Rattle.segment_filename.specs.Digits.{digits, allDigits, valueFrom, unsigned, isU32, valueOf}
+use Rattle.segment_filename.specs.Digits.{digits, valueFrom, unsigned, isU32, valueOf}
 use Rattle.segment_filename.specs.Format.{dot, suffix, nameOf, formattedOf, formattedInto}
 use Rattle.segment_filename.specs.Parse.{withoutPrefix, withoutSuffix, idBytes, parsedOf}
 use Rattle.segment_filename.proofs.Words.{starts-append, behind-append, ends-append, before-append}

@@ -1,6 +1,6 @@
 -- `iflughan::iflughan_name_write` meets its contract: `format`'s, with its answer as numbers.
 -- Assumes nothing.
-use mathlib.Core.Path.{_≡_, ap, _∙_}
+use mathlib.Core.Path.{ap, _∙_}
 use borrow.Author.Needs.{needs}
 use Rattle.iflughan.specs.Names.{writtenName}
 use Rattle.iflughan.proofs.iflughan_name_write.Statement.{statement}

@@ -1,7 +1,6 @@
 -- `segment_filename::ends_with` meets its contract.
 -- Assumes nothing.
-use mathlib.Core.Path.{_≡_, sym, _∙_}
-use native.Mathlib.Omega.{arith}
+use mathlib.Core.Path.{sym, _∙_}
 use borrow.Author.Needs.{needs}
 use Rattle.segment_filename.proofs.Words.{ends-short, ends-part}
 use Rattle.segment_filename.proofs.ends_with.Statement.{statement}

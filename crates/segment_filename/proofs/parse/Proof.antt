@@ -1,7 +1,7 @@
 -- `segment_filename::parse` meets its contract: each step's test is the definition's, on the part that the steps before it left.
 -- Assumes nothing.
 use mathlib.Core.Path.{_≡_, sym, ap, _∙_}
-use mathlib.Core.Bool.{Bool, true, false}
+use mathlib.Core.Bool.{true}
 use mathlib.Core.List.{List}
 use Prim.Native.Nat.{ℕ, _≤_, _-_}
 use native.Mathlib.Omega.{arith}
@@ -14,7 +14,7 @@ use Rattle.segment_filename.specs.declared.Parsed.the-variants.{Id, NotU
 use Rattle.segment_filename.specs.Words.{startsWith, endsWith}
 use Rattle.segment_filename.specs.Digits.{isU32, valueOf}
 use Rattle.segment_filename.specs.Format.{dot, suffix}
-use Rattle.segment_filename.specs.Parse.{withoutPrefix, withoutSuffix, idBytes, parsedOf}
+use Rattle.segment_filename.specs.Parse.{withoutPrefix, withoutSuffix, idBytes}
 use Rattle.segment_filename.proofs.Words.{starts-long, ends-long, part-rest}
 use Rattle.segment_filename.proofs.Steps.{step-30, step-31, step-32, step-33, step-34, step-35}
 use Rattle.segment_filename.proofs.parse.Statement.{statement}

@@ -1,17 +1,14 @@
 -- `segment_filename::parse_u32` meets its contract. The loop's invariant: what is left to read decides whether all are digits, and the
 -- number read so far goes on to the whole number. Assumes nothing.
-use mathlib.Core.Path.{_≡_, refl, sym, ap, _∙_}
-use mathlib.Core.Bool.{Bool, true, false, _&&_}
+use mathlib.Core.Path.{_≡_, sym, ap, _∙_}
+use mathlib.Core.Bool.{Bool, true, _&&_}
 use mathlib.Core.List.{List, []}
-use Prim.Native.Nat.{ℕ, _≤_, _<_, _+_, _-_, _*_, _^_}
+use Prim.Native.Nat.{ℕ, _≤_, _<_, _+_, _-_, _^_}
 use native.Mathlib.Nat.{one-le-pow}
 use native.Mathlib.Omega.{arith}
 use lib.ListN.{length, getD, drop, drop-of-length-le}
 use borrow.Author.Needs.{needs}
 use borrow.Author.Tests.{not-true, not-false, le-leb, lt-leb}
-use Rattle.lists.specs.Choice.{pick}
-use Rattle.segment_filename.specs.declared.Parsed.{Parsed}
-use Rattle.segment_filename.specs.declared.Parsed.the-variants.{Id, NotU32}
 use Rattle.segment_filename.specs.Digits.{isDigit, allDigits, valueFrom, unsigned, valueOf}
 use Rattle.segment_filename.proofs.Digits.{sign-short, digits-at, value-at, digit-range, value-room, places-small}
 use Rattle.segment_filename.proofs.parse_u32.Statement.{statement}

@@ -1,8 +1,8 @@
 -- `segment_filename::ten_digits` meets its contract. The loop's invariant: the digits are those still to come and those written behind i.
 -- Assumes nothing.
 use mathlib.Core.Path.{_≡_, refl, sym, ap, _∙_}
-use mathlib.Core.List.{List, _++_, append-nil}
-use Prim.Native.Nat.{ℕ, suc, _≤_, _+_, _-_, _/_, _%_}
+use mathlib.Core.List.{_++_, append-nil}
+use Prim.Native.Nat.{ℕ, suc, _≤_, _-_}
 use native.Mathlib.Omega.{arith}
 use lib.ListN.{length, length-set, drop}
 use borrow.Author.Needs.{needs}
