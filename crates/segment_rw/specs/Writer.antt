@@ -1,5 +1,6 @@
 -- One record written to a segment's slot: which bytes of the area change, and the segment's size afterwards. Where the record does not
 -- fit the slot, or the slot the area, nothing changes. Assumes nothing.
+use mathlib.Core.Path.{_≡_}
 use mathlib.Core.List.{List}
 use mathlib.Core.Bool.{Bool, _&&_}
 use Prim.Native.Nat.{ℕ, _+_, _*_}
@@ -26,3 +27,8 @@ areaAfter c slot size id payload area =
 -- the writer afterwards: its slot stays, and its size is the segment's
 abbrev pub writtenBy : SegmentWriter → (c n all : ℕ) → SegmentWriter
 writtenBy w c n all = record { slot = w .slot; size = sizeAfter c (w .slot) (w .size) n all }
+
+-- a record was written: the segment's size r and the area `after`
+pub record Wrote (c slot size id : ℕ) (payload area : List ℕ) (r : ℕ) (after : List ℕ) : Type 0 where
+  pub size-is : r ≡ sizeAfter c slot size (length payload) (length area)
+  pub area-is : after ≡ areaAfter c slot size id payload area
