@@ -20,26 +20,25 @@ unfolding nameOf
 name-length prefix id = simp (length-append, digits-length) (omega arith)
 
 -- a piece right behind one at the front: one piece at the front
-splice-next : (n : ℕ) (xs ys out : List ℕ) → length xs ≡ n → n + length ys ≤ length out
-    → splice n ys (splice 0 xs out) ≡ splice 0 (xs ++ ys) out
-splice-next n xs ys out long fits =
+splice-next : (n : ℕ) (xs ys out : List ℕ) → length xs ≡ n → splice n ys (splice 0 xs out) ≡ splice 0 (xs ++ ys) out
+splice-next n xs ys out long =
     let place : n ≡ 0 + length xs = omega arith in
-    ap (λ (k : ℕ). splice k ys (splice 0 xs out)) place ∙ splice-join 0 xs ys out (omega arith)
+    ap (λ (k : ℕ). splice k ys (splice 0 xs out)) place ∙ splice-join 0 xs ys out
 
 -- the four pieces of a name, written one behind the other, are the name
-pub name-pieces : (prefix : List ℕ) (id : ℕ) (out : List ℕ) → length prefix + 15 ≤ length out
+pub name-pieces : (prefix : List ℕ) (id : ℕ) (out : List ℕ)
     → splice (length prefix + 11) suffix (splice (length prefix + 1) (digits 10 id) (splice (length prefix) dot (splice 0 prefix out)))
     ≡ splice 0 (nameOf prefix id) out
 unfolding nameOf
-name-pieces prefix id out fits =
+name-pieces prefix id out =
     let n : ℕ = length prefix in
     let ten : List ℕ = digits 10 id in
     let long-ten = digits-length 10 id in
     let long-dot : length (prefix ++ dot) ≡ n + 1 = length-append prefix dot in
     let long-id : length ((prefix ++ dot) ++ ten) ≡ n + 11 = length-append (prefix ++ dot) ten ∙ omega arith in
-    ap (λ (l : List ℕ). splice (n + 11) suffix (splice (n + 1) ten l)) (splice-next n prefix dot out refl (omega arith))
-    ∙ ap (splice (n + 11) suffix) (splice-next (n + 1) (prefix ++ dot) ten out long-dot (omega arith))
-    ∙ splice-next (n + 11) ((prefix ++ dot) ++ ten) suffix out long-id (omega arith)
+    ap (λ (l : List ℕ). splice (n + 11) suffix (splice (n + 1) ten l)) (splice-next n prefix dot out refl)
+    ∙ ap (splice (n + 11) suffix) (splice-next (n + 1) (prefix ++ dot) ten out long-dot)
+    ∙ splice-next (n + 11) ((prefix ++ dot) ++ ten) suffix out long-id
     ∙ ap (λ (l : List ℕ). splice 0 l out) (append-assoc (prefix ++ dot) ten suffix ∙ append-assoc prefix dot (ten ++ suffix))
 
 module _ (prefix : List ℕ) (id : ℕ) (out : List ℕ) where

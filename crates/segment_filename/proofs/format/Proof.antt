@@ -83,7 +83,7 @@ returns-4 c =
           ∙ ap (λ (l : List ℕ). splice (length (a .prefix .now) + 1) l (w2 .last .0)) (d .ensures)
           ∙ ap (splice (length (a .prefix .now) + 1) (digits 10 (a .id)))
           (w2 .ensures ∙ ap (splice (length (a .prefix .now)) dot) (w1 .ensures)))
-          ∙ name-pieces (a .prefix .now) (a .id) (a .out .now) (omega arith) ∙ given .1,
+          ∙ name-pieces (a .prefix .now) (a .id) (a .out .now) ∙ given .1,
     )
 
 pub format-spec : {M : Type 1} → statement M
