@@ -1,1 +1,2 @@
 pub mod Writer
+pub mod Unique

@@ -10,13 +10,13 @@ use lib.ListN.{length, take, drop, replicate, length-drop, drop-of-length-le}
 use lib.Seq.{take-all, drop-drop}
 use lib.Dec.{leb}
 use borrow.Author.Tests.{le-leb, lt-leb, leb-true}
-use Rattle.lists.specs.Choice.{pick}
 use borrow.Rule.Slice.PartMut.{putMid}
-use Rattle.lists.specs.Splice.{splice}
-use Rattle.lists.proofs.Splice.{splice-length}
+use Rattle.lists.specs.Splice.{part, splice, slotOf}
+use Rattle.lists.proofs.Cases.{pick-either}
+use Rattle.lists.proofs.Splice.{splice-length, splice-before, splice-after, splice-grow, splice-slot}
 use Rattle.lists.proofs.Writes.{part-splice}
 use Rattle.record.specs.Record.{maxPayload, headerBytes, recordRoom, recordBytes}
-use Rattle.record.proofs.Record.{header, room-ge, record-steps}
+use Rattle.record.proofs.Record.{header, room-ge, record-length, record-steps}
 use Rattle.segment_rw.specs.Writer.{fitsSlot, sizeAfter, areaAfter, Wrote}
 
 -- what it takes that a record fits
@@ -110,3 +110,50 @@ module _ (c slot size id : ℕ) (payload area : List ℕ) where
       → Wrote c slot size id payload area r after
   unfolding sizeAfter areaAfter
   wrote-record r after e p q = record { size-is = simp e p; area-is = simp e q }
+
+-- ---- what a write leaves alone, and what stands there afterwards
+
+module _ (c slot size id : ℕ) (payload area : List ℕ) where
+  -- the area keeps its length
+  pub area-length : length (areaAfter c slot size id payload area) ≡ length area
+  unfolding areaAfter
+  area-length =
+      pick-either (λ (l : List ℕ). length l ≡ length area) (fitsSlot c slot size (length payload) (length area)) _ _
+      (λ e. splice-length (slot * c + size) (recordBytes id payload) area) (λ e. refl)
+
+  -- every other slot stays as it is
+  pub area-other : (j : ℕ) → (slot ≡ j → ⊥) → slotOf c j (areaAfter c slot size id payload area) ≡ slotOf c j area
+  unfolding areaAfter
+  area-other j apart =
+      pick-either (λ (l : List ℕ). slotOf c j l ≡ slotOf c j area) (fitsSlot c slot size (length payload) (length area)) _ _
+      (λ e. let f = fits-only _ _ _ _ _ e in
+      splice-slot c slot j (slot * c + size) (recordBytes id payload) area (omega arith)
+      (omega (arith, f .room, record-length id payload)) apart)
+      (λ e. refl)
+
+  module _ (fits : fitsSlot c slot size (length payload) (length area) ≡ true) where
+    -- a record that fits is one piece, from the segment's size on
+    pub area-is : areaAfter c slot size id payload area ≡ splice (slot * c + size) (recordBytes id payload) area
+    unfolding areaAfter
+    area-is = simp fits
+
+    -- the segment's image afterwards: the old one, and then the record's bytes
+    pub area-image : part (slot * c) (size + recordRoom (length payload)) (areaAfter c slot size id payload area)
+        ≡ part (slot * c) size area ++ recordBytes id payload
+    area-image =
+        let f = fits-only _ _ _ _ _ fits in
+        let long = record-length id payload in
+        ap (part (slot * c) (size + recordRoom (length payload))) area-is
+        ∙ ap (λ (n : ℕ). part (slot * c) (size + n) (splice (slot * c + size) (recordBytes id payload) area)) (sym long)
+        ∙ splice-grow (slot * c + size) (recordBytes id payload) area (omega (arith, f .room, f .inside)) (slot * c) size refl
+
+    -- "Only the bytes from the old size to the new padded size change": a part in front of them stays
+    pub area-before : (a n : ℕ) → a + n ≤ slot * c + size → part a n (areaAfter c slot size id payload area) ≡ part a n area
+    area-before a n h = ap (part a n) area-is ∙ splice-before (slot * c + size) (recordBytes id payload) area a n h
+
+    -- and a part behind them
+    pub area-behind : (a n : ℕ) → slot * c + size + recordRoom (length payload) ≤ a
+        → part a n (areaAfter c slot size id payload area) ≡ part a n area
+    area-behind a n h =
+        ap (part a n) area-is
+        ∙ splice-after (slot * c + size) (recordBytes id payload) area a n (omega (arith, record-length id payload))

@@ -1,7 +1,7 @@
 -- `segment_rw::fits_slot` meets its contract: each way out is one of the definition's tests.
 -- Assumes nothing.
 use mathlib.Core.Path.{_≡_, sym}
-use Prim.Native.Nat.{_+_, _≤_, _<_}
+use Prim.Native.Nat.{_+_, _*_, _≤_}
 use native.Mathlib.Omega.{arith}
 use Rattle.record.specs.Record.{recordRoom}
 use Rattle.segment_rw.proofs.Writer.{fits-not-capacity, fits-not-small, fits-not-room, fits-inside, slot-small}
@@ -36,22 +36,28 @@ returns-3 c =
 returns-4 : tie.Need-returns-4
 returns-4 c =
     let e = c .before .before .before in
-    sym (fits-not-room _ _ _ _ _ (e .before .if1 .left) (e .if2 .left) (omega (arith, room-of (c .before .before), c .before .if3 .left, c .if4 .taken)))
+    sym (fits-not-room _ _ _ _ _ (e .before .if1 .left) (e .if2 .left)
+    (omega (arith, room-of (c .before .before), c .before .if3 .left, c .if4 .taken)))
+
+bounded : (c : tie.Else4) → let a = c .before .before .before .before .before .args in
+    a .slot * a .capacity + 4294967296 ≤ 9223372036854775808 + 2147483648
+bounded c =
+    let early = c .before .before .before .before in
+    slot-small (early .before .args .slot) (early .before .args .capacity) (search needs) (early .if1 .left)
 
 mul-result : tie.Need-mul-result
 mul-result c =
-    let s = c .before .before .before .before .before in
-    record { fits = omega (arith, slot-small (s .args .slot) (s .args .capacity) (search needs) (c .before .before .before .before .if1 .left)) }
+    record { fits = omega (arith, bounded c) }
 
 add-result : tie.Need-add-result
 add-result c =
-    let s = c .before .before .before .before .before in
-    record { fits = omega (arith, slot-small (s .args .slot) (s .args .capacity) (search needs) (c .before .before .before .before .if1 .left)) }
+    record { fits = omega (arith, bounded c) }
 
 returns-5 : tie.Need-returns-5
 returns-5 c =
     let e = c .before .before .before in
-    sym (fits-inside _ _ _ _ _ (e .before .if1 .left) (e .if2 .left) (omega (arith, room-of (c .before .before), c .before .if3 .left, c .if4 .left)))
+    sym (fits-inside _ _ _ _ _ (e .before .if1 .left) (e .if2 .left)
+    (omega (arith, room-of (c .before .before), c .before .if3 .left, c .if4 .left)))
 
 pub fits-slot-spec : {M : Type 1} → statement M
 fits-slot-spec =

@@ -1,14 +1,9 @@
 -- `segment_rw::put_record` meets its contract: header, payload and zeros, one right behind the other.
 -- Assumes nothing.
-use mathlib.Core.Path.{_≡_, sym, ap, _∙_}
-use mathlib.Core.List.{List}
-use Prim.Native.Nat.{ℕ, _+_, _-_, _≤_}
+use mathlib.Core.Path.{_≡_}
 use native.Mathlib.Omega.{arith}
-use lib.ListN.{length, drop, replicate, length-drop}
-use Rattle.lists.specs.Splice.{splice}
-use Rattle.lists.proofs.Splice.{splice-length}
-use Rattle.lists.proofs.Writes.{part-splice}
-use Rattle.record.specs.Record.{headerBytes, recordRoom, recordBytes}
+use lib.ListN.{length}
+use Rattle.record.specs.Record.{recordRoom}
 use Rattle.segment_rw.proofs.Writer.{tail-splice, record-written}
 use borrow.Author.Needs.{needs}
 use Rattle.segment_rw.proofs.put_record.Statement.{statement}

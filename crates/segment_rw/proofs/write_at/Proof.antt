@@ -1,12 +1,11 @@
 -- `segment_rw::write_at` meets its contract: nothing where the record does not fit, else its bytes and its room.
 -- Assumes nothing.
 use mathlib.Core.Path.{_≡_, sym, ap, _∙_}
-use mathlib.Core.Bool.{true, false}
-use Prim.Native.Nat.{ℕ, _+_, _*_, _≤_}
+use mathlib.Core.Bool.{true}
+use Prim.Native.Nat.{ℕ, _+_}
 use native.Mathlib.Omega.{arith}
 use lib.ListN.{length}
 use borrow.Author.Tests.{not-true, not-false}
-use Rattle.record.specs.Record.{recordRoom}
 use Rattle.segment_rw.specs.Writer.{fitsSlot}
 use Rattle.segment_rw.proofs.Writer.{Fits, fits-only, slot-small, wrote-none, wrote-record}
 use borrow.Author.Needs.{needs}
@@ -39,7 +38,8 @@ mul-at c =
 add-at : tie.Need-add-at
 add-at c =
     let a = c .before .before .before .before .args in
-    record { fits = omega (arith, slot-small (a .slot) (a .capacity) (search needs) (fits-of c .capacity), fits-of c .capacity, fits-of c .room) }
+    let f = fits-of c in
+    record { fits = omega (arith, slot-small (a .slot) (a .capacity) (search needs) (f .capacity), f .capacity, f .room) }
 
 put-record-requires : tie.Need-put-record-requires
 put-record-requires c κs = let f = fits-of (c .before) in (f .small, omega (arith, f .room, f .inside))
