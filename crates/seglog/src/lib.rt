@@ -1,8 +1,11 @@
 // The log value of the segmented log (`SegmentedLog`, `Segment` of the Rust's mod.rs): fixed arrays and a count in place of a Vec.
 // Here: whether it is well shaped, a new log, the live range. append stands in seglog_append, the prunes in seglog_prune.
 ghost use mathlib.Core.Path.{_≡_};
-ghost use lib.ListN.{length};
-ghost use Rattle.seglog.specs.Log.{fittingOf};
+ghost use mathlib.Core.Bool.{_&&_};
+ghost use Prim.Native.Nat.{_+_, _%_, _≤_};
+ghost use lib.ListN.{length, take, drop};
+ghost use lib.Dec.{eqb, leb, ltb};
+ghost use Rattle.seglog.specs.Log.{sizesOf, segOf, zeroOf, zerosOf, chainOf, apartOf, fittingOf, noSegment, emptyOf, logOf};
 ghost use Rattle.seglog.specs.New.{newOf, rangeOf};
 
 // One listed segment: its image is the first `size` bytes of its slot.
@@ -40,4 +43,223 @@ pub struct Logged {
 pub struct LiveRange {
     pub start: u64,
     pub end: u64,
+}
+
+fn same(a: u64, b: u64) -> bool
+    ensures { λ r. ⌜ r ≡ eqb a b ⌝ }
+{
+    a == b
+}
+
+fn at_most(a: u64, b: u64) -> bool
+    ensures { λ r. ⌜ r ≡ leb a b ⌝ }
+{
+    a <= b
+}
+
+fn below(a: u64, b: u64) -> bool
+    ensures { λ r. ⌜ r ≡ ltb a b ⌝ }
+{
+    a < b
+}
+
+// Whether b is one more than a.
+fn next_to(a: u64, b: u64) -> bool
+    ensures { λ r. ⌜ r ≡ eqb b (a + 1) ⌝ }
+{
+    if b == 0 {
+        return false;
+    }
+    same(b - 1, a)
+}
+
+// Whether K, C and M obey the rules.
+fn sizes_good(k: u64, c: u64, m: u64) -> bool
+    ensures { λ r. ⌜ r ≡ sizesOf k c m ⌝ }
+{
+    let some_slot = at_most(1, k);
+    let few_slots = at_most(k, 64);
+    let whole_pages = same(c % 4096, 0);
+    let a_page = at_most(4096, c);
+    let small = at_most(c, 2147483648);
+    let soft = at_most(m, c);
+    some_slot & few_slots & whole_pages & a_page & small & soft
+}
+
+// Whether every field of an entry is 0.
+fn is_zero(g: Segment) -> bool
+    ensures { λ r. ⌜ r ≡ zeroOf g ⌝ }
+{
+    let id = same(g.id as u64, 0);
+    let slot = same(g.slot as u64, 0);
+    let size = same(g.size, 0);
+    let min = same(g.min, 0);
+    let max = same(g.max, 0);
+    id & slot & size & min & max
+}
+
+// What is asked of a listed segment by itself.
+fn segment_good(k: u64, c: u64, g: Segment) -> bool
+    ensures { λ r. ⌜ r ≡ segOf k c g ⌝ }
+{
+    let some_id = at_most(1, g.id as u64);
+    let slot = below(g.slot as u64, k);
+    let some_size = at_most(1, g.size);
+    let size = at_most(g.size, c);
+    let some_min = at_most(1, g.min);
+    let order = at_most(g.min, g.max);
+    some_id & slot & some_size & size & some_min & order
+}
+
+// Whether the segment h goes on from g.
+fn follows(g: Segment, h: Segment) -> bool
+    ensures { λ r. ⌜ r ≡ (eqb (h .id) (g .id + 1) && eqb (h .min) (g .max + 1)) ⌝ }
+{
+    let id = next_to(g.id as u64, h.id as u64);
+    let min = next_to(g.max, h.min);
+    id & min
+}
+
+// Whether the unused entries are all zero.
+fn unused_zero(log: Log) -> bool
+    requires { ⌜ log .count ≤ 64 ⌝ }
+    ensures { λ r. ⌜ r ≡ zerosOf (drop (log .count) (log .segs)) ⌝ }
+{
+    let mut i: usize = log.count;
+    while i < 64 {
+        let g = log.segs[i];
+        if !is_zero(g) {
+            return false;
+        }
+        i += 1;
+    }
+    true
+}
+
+// Whether the listed segments go on from each other and have slots of their own: from the last to the first, with a mark for each slot seen.
+fn listed_good(log: Log) -> bool
+    requires { ⌜ (log .count ≤ log .k) × (log .k ≤ 64) ⌝ }
+    ensures { λ r. ⌜ r ≡ (chainOf (log .k) (log .c) (take (log .count) (log .segs)) && apartOf (take (log .count) (log .segs))) ⌝ }
+{
+    let mut used = [0u8; 64];
+    let mut later = no_segment();
+    let mut i: usize = log.count;
+    while 0 < i {
+        let at = i - 1;
+        let g = log.segs[at];
+        let good = segment_good(log.k, log.c, g);
+        let last = same(i as u64, log.count as u64);
+        let next = follows(g, later);
+        if !(good & (last | next)) {
+            return false;
+        }
+        let slot = g.slot as usize;
+        if used[slot] != 0 {
+            return false;
+        }
+        used[slot] = 1;
+        later = g;
+        i = at;
+    }
+    true
+}
+
+// The live range begins in the first segment and ends with the last, which ends with a page.
+fn ends_good(start: u64, end: u64, first: Segment, last: Segment) -> bool
+    ensures { λ r. ⌜ r ≡ (leb (first .min) start && leb start (first .max) && eqb (last .size % 4096) 0 && eqb (last .max) end) ⌝ }
+{
+    let from = at_most(first.min, start);
+    let to = at_most(start, first.max);
+    let whole_pages = same(last.size % 4096, 0);
+    let newest = same(last.max, end);
+    from & to & whole_pages & newest
+}
+
+fn no_segment() -> Segment
+    ensures { λ r. ⌜ r ≡ noSegment ⌝ }
+{
+    Segment {
+        id: 0,
+        slot: 0,
+        size: 0,
+        min: 0,
+        max: 0,
+    }
+}
+
+// Whether the log is well shaped and the area has K x C bytes: not refusal 2.
+pub fn fits(log: Log, bytes: usize) -> bool
+    ensures { λ r. ⌜ r ≡ fittingOf log bytes ⌝ }
+{
+    if !sizes_good(log.k, log.c, log.m) {
+        return false;
+    }
+    if log.k < log.count as u64 {
+        return false;
+    }
+    if bytes as u64 != log.k * log.c {
+        return false;
+    }
+    if !unused_zero(log) {
+        return false;
+    }
+    if !listed_good(log) {
+        return false;
+    }
+    if log.count == 0 {
+        let start = same(log.start, 0);
+        let end = same(log.end, 0);
+        return start & end;
+    }
+    let at = log.count - 1;
+    let first = log.segs[0];
+    let last = log.segs[at];
+    ends_good(log.start, log.end, first, last)
+}
+
+// A log with no segments.
+fn empty_log(k: u64, c: u64, m: u64) -> Log
+    ensures { λ r. ⌜ r ≡ logOf (emptyOf k c m) ⌝ }
+{
+    Log {
+        k,
+        c,
+        m,
+        start: 0,
+        end: 0,
+        count: 0,
+        segs: [no_segment(); 64],
+    }
+}
+
+// The empty log over K slots of C bytes; the area is not touched.
+pub fn new_log(k: u64, c: u64, m: u64, area: &mut [u8]) -> Logged
+    ensures { λ r. ⌜ (r ≡ newOf k c m (length (now (area .entry)))) × (now (area .exit) ≡ now (area .entry)) ⌝ }
+{
+    if !sizes_good(k, c, m) {
+        return Logged {
+            refusal: 1,
+            log: empty_log(0, 0, 0),
+        };
+    }
+    if area.len() as u64 != k * c {
+        return Logged {
+            refusal: 1,
+            log: empty_log(0, 0, 0),
+        };
+    }
+    Logged {
+        refusal: 0,
+        log: empty_log(k, c, m),
+    }
+}
+
+// The first and the last live record id; (0, 0) where there is none.
+pub fn live_range(log: Log) -> LiveRange
+    ensures { λ r. ⌜ r ≡ rangeOf log ⌝ }
+{
+    LiveRange {
+        start: log.start,
+        end: log.end,
+    }
 }

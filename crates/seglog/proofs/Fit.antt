@@ -1,0 +1,261 @@
+-- Refusal 2 taken apart: what each of its tests says, and the ways of the code through them.
+-- Assumes nothing.
+use mathlib.Core.Path.{_≡_, refl, sym, ap, _∙_}
+use mathlib.Core.List.{List, [], _∷_}
+use mathlib.Core.Bool.{Bool, true, false, _&&_, not}
+use Prim.Native.Nat.{ℕ, zero, suc, _+_, _-_, _*_, _%_, _≤_, _<_}
+use native.Mathlib.Nat.{mul-le-mul}
+use native.Mathlib.Omega.{arith}
+use lib.ListN.{length, getD, take, drop}
+use lib.Seq.{drop-cons}
+use lib.Dec.{eqb, leb, ltb}
+use borrow.Author.Tests.{le-leb, leb-true, lt-ltb, ltb-true, eq-eqb, eqb-true}
+use Rattle.seglog.specs.declared.Segment.{Segment}
+use Rattle.seglog.specs.declared.Log.{Log}
+use Rattle.seglog.specs.Log.{
+  noSegment,
+  viewOf,
+  headOf,
+  sizesOf,
+  segOf,
+  nextOf,
+  chainOf,
+  apartOf,
+  endsOf,
+  shapedOf,
+  zerosOf,
+  plainOf,
+  fittingOf,
+}
+use Rattle.seglog.specs.Shape.{SizesObey}
+use Rattle.seglog.proofs.Bools.{both-ways, and-both, both-and, not-so, same-test}
+use Rattle.seglog.proofs.View.{listed-length, listed-at, listed-head}
+use Rattle.seglog.proofs.Slots.{Below}
+
+-- ---- K, C and M
+
+-- what the test of the sizes says
+pub sizes-are : (k c m : ℕ) → sizesOf k c m ≡ true → SizesObey k c m
+unfolding sizesOf
+sizes-are k c m h =
+    let t5 = and-both (leb 1 k && leb k 64 && eqb (c % 4096) 0 && leb 4096 c && leb c 2147483648) (leb m c) h in
+    let t4 = and-both (leb 1 k && leb k 64 && eqb (c % 4096) 0 && leb 4096 c) (leb c 2147483648) (t5 .0) in
+    let t3 = and-both (leb 1 k && leb k 64 && eqb (c % 4096) 0) (leb 4096 c) (t4 .0) in
+    let t2 = and-both (leb 1 k && leb k 64) (eqb (c % 4096) 0) (t3 .0) in
+    let t1 = and-both (leb 1 k) (leb k 64) (t2 .0) in
+    record {
+      some-slot = leb-true 1 k (t1 .0);
+      few-slots = leb-true k 64 (t1 .1);
+      whole-pages = eqb-true (c % 4096) 0 (t2 .1);
+      a-page = leb-true 4096 c (t3 .1);
+      at-most = leb-true c 2147483648 (t4 .1);
+      soft = leb-true m c (t5 .1);
+    }
+
+-- and the other way
+pub are-sizes : (k c m : ℕ) → SizesObey k c m → sizesOf k c m ≡ true
+unfolding sizesOf
+are-sizes k c m s =
+    simp (
+      le-leb 1 k (s .some-slot),
+      le-leb k 64 (s .few-slots),
+      eq-eqb (c % 4096) 0 (s .whole-pages),
+      le-leb 4096 c (s .a-page),
+      le-leb c 2147483648 (s .at-most),
+      le-leb m c (s .soft),
+    )
+
+-- K x C is a number of 38 bits
+pub sizes-room : (k c m : ℕ) → SizesObey k c m → k * c ≤ 137438953472
+sizes-room k c m s = mul-le-mul (s .few-slots) (s .at-most)
+
+-- ---- a listed segment
+
+-- what the test of one segment says
+pub record SegmentGood (k c : ℕ) (g : Segment) : Type 0 where
+  pub some-id : 1 ≤ g .id
+  pub slot : g .slot < k
+  pub some-size : 1 ≤ g .size
+  pub size : g .size ≤ c
+  pub some-min : 1 ≤ g .min
+  pub order : g .min ≤ g .max
+
+pub seg-is : (k c : ℕ) (g : Segment) → segOf k c g ≡ true → SegmentGood k c g
+unfolding segOf
+seg-is k c g h =
+    let t5 = and-both (leb 1 (g .id) && ltb (g .slot) k && leb 1 (g .size) && leb (g .size) c && leb 1 (g .min)) (leb (g .min) (g .max)) h in
+    let t4 = and-both (leb 1 (g .id) && ltb (g .slot) k && leb 1 (g .size) && leb (g .size) c) (leb 1 (g .min)) (t5 .0) in
+    let t3 = and-both (leb 1 (g .id) && ltb (g .slot) k && leb 1 (g .size)) (leb (g .size) c) (t4 .0) in
+    let t2 = and-both (leb 1 (g .id) && ltb (g .slot) k) (leb 1 (g .size)) (t3 .0) in
+    let t1 = and-both (leb 1 (g .id)) (ltb (g .slot) k) (t2 .0) in
+    record {
+      some-id = leb-true 1 (g .id) (t1 .0);
+      slot = ltb-true (g .slot) k (t1 .1);
+      some-size = leb-true 1 (g .size) (t2 .1);
+      size = leb-true (g .size) c (t3 .1);
+      some-min = leb-true 1 (g .min) (t4 .1);
+      order = leb-true (g .min) (g .max) (t5 .1);
+    }
+
+-- and the other way
+pub is-seg : (k c : ℕ) (g : Segment) → SegmentGood k c g → segOf k c g ≡ true
+unfolding segOf
+is-seg k c g s =
+    simp (
+      le-leb 1 (g .id) (s .some-id),
+      lt-ltb (g .slot) k (s .slot),
+      le-leb 1 (g .size) (s .some-size),
+      le-leb (g .size) c (s .size),
+      le-leb 1 (g .min) (s .some-min),
+      le-leb (g .min) (g .max) (s .order),
+    )
+
+-- a chain of segments, taken apart at the first
+pub record ChainGood (k c : ℕ) (g : Segment) (gs : List Segment) : Type 0 where
+  pub good : SegmentGood k c g
+  pub next : nextOf g gs ≡ true
+  pub rest : chainOf k c gs ≡ true
+
+pub chain-is : (k c : ℕ) (g : Segment) (gs : List Segment) → chainOf k c (g ∷ gs) ≡ true → ChainGood k c g gs
+unfolding chainOf
+chain-is k c g gs h =
+    let a = and-both (segOf k c g && nextOf g gs) (chainOf k c gs) h in
+    let b = and-both (segOf k c g) (nextOf g gs) (a .0) in
+    record { good = seg-is k c g (b .0); next = b .1; rest = a .1 }
+
+-- and put together
+pub is-chain : (k c : ℕ) (g : Segment) (gs : List Segment) → ChainGood k c g gs → chainOf k c (g ∷ gs) ≡ true
+unfolding chainOf
+is-chain k c g gs s = simp (is-seg k c g (s .good), s .next, s .rest)
+
+-- the slots of a chain are below K
+pub chain-below : (k c : ℕ) (gs : List Segment) → chainOf k c gs ≡ true → Below k gs
+chain-below k c [] h = tt
+chain-below k c (g ∷ gs) h = let t = chain-is k c g gs h in (t .good .slot, chain-below k c gs (t .rest))
+
+-- ---- the whole test
+
+-- a log that fits an area of n bytes, test by test
+pub record Fitting (l : Log) (n : ℕ) : Type 0 where
+  pub sizes : SizesObey (l .k) (l .c) (l .m)
+  pub few : l .count ≤ l .k
+  pub area : n ≡ l .k * l .c
+  pub zeros : zerosOf (drop (l .count) (l .segs)) ≡ true
+  pub chain : chainOf (l .k) (l .c) (take (l .count) (l .segs)) ≡ true
+  pub apart : apartOf (take (l .count) (l .segs)) ≡ true
+  pub ends : endsOf (l .start) (l .end) (take (l .count) (l .segs)) ≡ true
+
+module _ (l : Log) (n : ℕ) (long : length (l .segs) ≡ 64) where
+  abbrev gs : List Segment
+  gs = take (l .count) (l .segs)
+
+  -- what refusal 2's absence says
+  pub fitting-is : fittingOf l n ≡ true → Fitting l n
+  unfolding fittingOf plainOf shapedOf
+  fitting-is h =
+      let a = and-both (plainOf l) (shapedOf (viewOf l) && eqb n (l .k * l .c)) h in
+      let p = and-both (leb (l .count) 64) (zerosOf (drop (l .count) (l .segs))) (a .0) in
+      let b = and-both (shapedOf (viewOf l)) (eqb n (l .k * l .c)) (a .1) in
+      let c = and-both (sizesOf (l .k) (l .c) (l .m) && leb (length gs) (l .k) && chainOf (l .k) (l .c) gs && apartOf gs)
+      (endsOf (l .start) (l .end) gs) (b .0) in
+      let d = and-both (sizesOf (l .k) (l .c) (l .m) && leb (length gs) (l .k) && chainOf (l .k) (l .c) gs) (apartOf gs) (c .0) in
+      let e = and-both (sizesOf (l .k) (l .c) (l .m) && leb (length gs) (l .k)) (chainOf (l .k) (l .c) gs) (d .0) in
+      let f = and-both (sizesOf (l .k) (l .c) (l .m)) (leb (length gs) (l .k)) (e .0) in
+      record {
+        sizes = sizes-are (l .k) (l .c) (l .m) (f .0);
+        few = omega (
+          arith,
+          leb-true (length gs) (l .k) (f .1),
+          listed-length (l .count) (l .segs) long (leb-true (l .count) 64 (p .0)),
+        );
+        area = eqb-true n (l .k * l .c) (b .1);
+        zeros = p .1;
+        chain = e .1;
+        apart = d .1;
+        ends = c .1;
+      }
+
+  -- and the other way
+  pub is-fitting : Fitting l n → fittingOf l n ≡ true
+  unfolding fittingOf plainOf shapedOf
+  is-fitting f =
+      let few : l .count ≤ 64 = omega (arith, f .few, f .sizes .few-slots) in
+      let listed = listed-length (l .count) (l .segs) long few in
+      simp (
+        le-leb (l .count) 64 few,
+        f .zeros,
+        are-sizes (l .k) (l .c) (l .m) (f .sizes),
+        listed,
+        le-leb (l .count) (l .k) (f .few),
+        f .chain,
+        f .apart,
+        f .ends,
+        eq-eqb n (l .k * l .c) (f .area),
+      )
+
+  -- a log that cannot fit
+  no-fit : (Fitting l n → ⊥) → false ≡ fittingOf l n
+  no-fit h = not-so (fittingOf l n) (λ q. h (fitting-is q))
+
+  -- the ways of the code: K, C or M breaks the rules
+  pub fit-sizes : sizesOf (l .k) (l .c) (l .m) ≡ false → false ≡ fittingOf l n
+  fit-sizes h = no-fit (λ f. both-ways _ (are-sizes (l .k) (l .c) (l .m) (f .sizes)) h)
+
+  -- more segments than slots
+  pub fit-many : l .k < l .count → false ≡ fittingOf l n
+  fit-many h = no-fit (λ f. omega (arith, f .few))
+
+  -- an area of another length
+  pub fit-length : (n ≡ l .k * l .c → ⊥) → false ≡ fittingOf l n
+  fit-length h = no-fit (λ f. h (f .area))
+
+  -- a dirty entry
+  pub fit-dirty : zerosOf (drop (l .count) (l .segs)) ≡ false → false ≡ fittingOf l n
+  fit-dirty h = no-fit (λ f. both-ways _ (f .zeros) h)
+
+  -- segments that do not go on from each other, or share a slot
+  pub fit-listed : chainOf (l .k) (l .c) gs && apartOf gs ≡ false → false ≡ fittingOf l n
+  fit-listed h = no-fit (λ f. both-ways _ (both-and (chainOf (l .k) (l .c) gs) (apartOf gs) (f .chain) (f .apart)) h)
+
+  -- the last test decides
+  pub fit-ends : (b : Bool) → sizesOf (l .k) (l .c) (l .m) ≡ true → l .count ≤ l .k → n ≡ l .k * l .c
+      → zerosOf (drop (l .count) (l .segs)) ≡ true → chainOf (l .k) (l .c) gs && apartOf gs ≡ true → b ≡ endsOf (l .start) (l .end) gs
+      → b ≡ fittingOf l n
+  fit-ends b sizes few area zeros listed e =
+      let both = and-both (chainOf (l .k) (l .c) gs) (apartOf gs) listed in
+      same-test b (fittingOf l n)
+      (λ q.
+      is-fitting
+      (record {
+        sizes = sizes-are (l .k) (l .c) (l .m) sizes;
+        few = few;
+        area = area;
+        zeros = zeros;
+        chain = both .0;
+        apart = both .1;
+        ends = sym e ∙ q;
+      }))
+      (λ q. e ∙ fitting-is q .ends)
+
+-- ---- the two ends
+
+-- the ends where there are segments, as the code has them
+pub ends-some : (n : ℕ) (gs : List Segment) (s e : ℕ) → length gs ≡ 64 → n ≤ 64 → 0 < n
+    → (leb (getD gs 0 noSegment .min) s && leb s (getD gs 0 noSegment .max) && eqb (getD gs (n - 1) noSegment .size % 4096) 0
+    && eqb (getD gs (n - 1) noSegment .max) e)
+    ≡ endsOf s e (take n gs)
+unfolding endsOf
+ends-some n gs s e long few h =
+    let listed = listed-length n gs long few in
+    let first : take n gs ≡ getD gs 0 noSegment ∷ drop 1 (take n gs) =
+    drop-cons (take n gs) 0 noSegment (rw listed h)
+    ∙ ap (λ (g : Segment). g ∷ drop 1 (take n gs)) (listed-at n gs long few 0 h) in
+    let last : headOf (getD gs 0 noSegment ∷ drop 1 (take n gs)) ≡ getD gs (n - 1) noSegment =
+    ap (λ (l : List Segment). headOf l) (sym first) ∙ listed-head n gs long few h in
+    sym (ap (endsOf s e) first
+    ∙ ap (λ (x : Segment). leb (getD gs 0 noSegment .min) s && leb s (getD gs 0 noSegment .max) && eqb (x .size % 4096) 0 && eqb (x .max) e) last)
+
+-- where there are none
+pub ends-none : (n : ℕ) (gs : List Segment) (s e : ℕ) → n ≡ 0 → eqb s 0 && eqb e 0 ≡ endsOf s e (take n gs)
+unfolding endsOf
+ends-none n gs s e z = rw z refl

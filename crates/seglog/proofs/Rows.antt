@@ -1,0 +1,160 @@
+-- The turns of the two loops over a log's entries: the unused ones from the count on, the listed ones from the last to the first.
+-- Assumes nothing.
+use mathlib.Core.Path.{_≡_, refl, sym, ap, _∙_}
+use mathlib.Core.List.{List, [], _∷_}
+use mathlib.Core.Bool.{Bool, true, false, _&&_, _||_}
+use Prim.Native.Nat.{ℕ, zero, suc, _+_, _-_, _≤_, _<_}
+use native.Mathlib.Numerals.{add-one}
+use native.Mathlib.Omega.{arith}
+use lib.ListN.{length, getD, set, take, drop, drop-of-length-le}
+use lib.Seq.{drop-cons}
+use lib.Dec.{eqb}
+use borrow.Author.Tests.{eq-eqb, ne-eqb}
+use Rattle.lists.proofs.Cases.{by-order}
+use Rattle.seglog.specs.declared.Segment.{Segment}
+use Rattle.seglog.specs.Log.{noSegment, freshIn, apartOf, segOf, nextOf, chainOf, zeroOf, zerosOf}
+use Rattle.seglog.proofs.Bools.{both-ways, and-both, both-and, not-so}
+use Rattle.seglog.proofs.View.{listed-length, listed-at}
+use Rattle.seglog.proofs.Fit.{seg-is}
+use Rattle.seglog.proofs.Slots.{marksOf, marks-length, mark-none, mark-some}
+
+-- ---- the unused entries
+
+module _ (gs : List Segment) (o : Bool) (i : ℕ) (so-far : o ≡ zerosOf (drop i gs)) where
+  turn : i < length gs → o ≡ zeroOf (getD gs i noSegment) && zerosOf (drop (i + 1) gs)
+  unfolding zerosOf
+  turn h = so-far ∙ ap zerosOf (drop-cons gs i noSegment h ∙ ap (λ (k : ℕ). getD gs i noSegment ∷ drop k gs) (sym (add-one i)))
+
+  -- an entry that is not zero
+  pub zeros-found : i < length gs → zeroOf (getD gs i noSegment) ≡ false → false ≡ o
+  zeros-found h e = sym (turn h ∙ ap (λ (b : Bool). b && zerosOf (drop (i + 1) gs)) e)
+
+  -- one that is
+  pub zeros-turn : i < length gs → zeroOf (getD gs i noSegment) ≡ true → o ≡ zerosOf (drop (i + 1) gs)
+  zeros-turn h e = turn h ∙ ap (λ (b : Bool). b && zerosOf (drop (i + 1) gs)) e
+
+  -- the end
+  pub zeros-end : length gs ≤ i → true ≡ o
+  unfolding zerosOf
+  zeros-end h = sym (so-far ∙ ap zerosOf (drop-of-length-le gs {i = i} h))
+
+-- ---- the listed entries
+
+-- what holds of all holds of the last ones
+pub chain-drop : (k c i : ℕ) (gs : List Segment) → chainOf k c gs ≡ true → chainOf k c (drop i gs) ≡ true
+unfolding chainOf
+chain-drop k c zero gs h = h
+chain-drop k c (suc i) [] h = h
+chain-drop k c (suc i) (g ∷ gs) h = chain-drop k c i gs (and-both (segOf k c g && nextOf g gs) (chainOf k c gs) h .1)
+
+pub apart-drop : (i : ℕ) (gs : List Segment) → apartOf gs ≡ true → apartOf (drop i gs) ≡ true
+unfolding apartOf
+apart-drop zero gs h = h
+apart-drop (suc i) [] h = h
+apart-drop (suc i) (g ∷ gs) h = apart-drop i gs (and-both (freshIn (g .slot) gs) (apartOf gs) h .1)
+
+-- the segments from i on have been seen: they are in order, each in a slot of its own that is marked; `later` is the first of them
+pub record Seen (k c n : ℕ) (gs : List Segment) (used : List ℕ) (later : Segment) (i : ℕ) : Type 0 where
+  pub long : length gs ≡ 64
+  pub within : i ≤ n
+  pub chain : chainOf k c (drop i (take n gs)) ≡ true
+  pub apart : apartOf (drop i (take n gs)) ≡ true
+  pub marks : used ≡ marksOf (drop i (take n gs))
+  pub next : i < n → later ≡ getD gs i noSegment
+
+-- none has been seen
+pub seen-none : (k c n : ℕ) (gs : List Segment) (later : Segment) (used : List ℕ) → length gs ≡ 64 → n ≤ 64 → used ≡ marksOf [] → Seen k c n gs used later n
+unfolding chainOf apartOf
+seen-none k c n gs later used long few e =
+    let none : drop n (take n gs) ≡ [] = drop-of-length-le (take n gs) {i = n} (omega (arith, listed-length n gs long few)) in
+    record {
+      long = long;
+      within = omega arith;
+      chain = ap (chainOf k c) none;
+      apart = ap apartOf none;
+      marks = e ∙ ap marksOf (sym none);
+      next = λ h. absurd (omega arith);
+    }
+
+module _ (k c n : ℕ) (gs : List Segment) (used : List ℕ) (later : Segment) (i : ℕ) (seen : Seen k c n gs used later i) (few : n ≤ 64) (more : 0 < i) where
+  abbrev g : Segment
+  g = getD gs (i - 1) noSegment
+
+  abbrev rest : List Segment
+  rest = drop i (take n gs)
+
+  one-more : drop (i - 1) (take n gs) ≡ g ∷ rest
+  one-more =
+      let back : suc (i - 1) ≡ i = omega arith in
+      let long = listed-length n gs (seen .long) few in
+      let within = seen .within in
+      drop-cons (take n gs) (i - 1) noSegment (omega arith)
+      ∙ ap (λ (x : Segment). x ∷ drop (suc (i - 1)) (take n gs)) (listed-at n gs (seen .long) few (i - 1) (omega arith))
+      ∙ ap (λ (j : ℕ). g ∷ drop j (take n gs)) back
+
+  -- the code's test of the next segment
+  linked : eqb i n || (eqb (later .id) (g .id + 1) && eqb (later .min) (g .max + 1)) ≡ nextOf g rest
+  unfolding nextOf
+  linked =
+      by-order n i
+      (λ h.
+      let within = seen .within in
+      let none : rest ≡ [] = drop-of-length-le (take n gs) {i = i} (omega (arith, listed-length n gs (seen .long) few)) in
+      rw (eq-eqb i n (omega arith), none) refl)
+      (λ h.
+      let some : rest ≡ later ∷ drop (suc i) (take n gs) =
+      drop-cons (take n gs) i noSegment (omega (arith, listed-length n gs (seen .long) few))
+      ∙ ap (λ (x : Segment). x ∷ drop (suc i) (take n gs)) (listed-at n gs (seen .long) few i h ∙ sym (seen .next h)) in
+      rw (ne-eqb i n (λ z. omega arith), some) refl)
+
+  module _ (a b d : Bool) (ea : a ≡ segOf k c g) (eb : b ≡ eqb i n) (ed : d ≡ eqb (later .id) (g .id + 1) && eqb (later .min) (g .max + 1)) where
+    step : chainOf k c (drop (i - 1) (take n gs)) ≡ a && (b || d)
+    unfolding chainOf
+    step =
+        ap (chainOf k c) one-more ∙ rw (seen .chain, ← linked, ← ea, ← eb, ← ed) (and-true (a && (b || d)))
+      where
+        and-true : (x : Bool) → x && true ≡ x
+        and-true true = refl
+        and-true false = refl
+
+    -- a segment that is not good, or does not lead to the next one
+    pub seen-bad : a && (b || d) ≡ false → false ≡ chainOf k c (take n gs) && apartOf (take n gs)
+    seen-bad h =
+        not-so _ (λ q. both-ways _ (chain-drop k c (i - 1) (take n gs) (and-both (chainOf k c (take n gs)) (apartOf (take n gs)) q .0)) (step ∙ h))
+
+    module _ (good : a && (b || d) ≡ true) (most : k ≤ 64) where
+      -- a good segment's slot has a mark
+      pub seen-slot : g .slot < 64
+      seen-slot = omega (arith, seg-is k c g (sym ea ∙ and-both a (b || d) good .0) .slot)
+
+      at-slot : getD used (g .slot) 0 ≡ getD (marksOf rest) (g .slot) 0
+      at-slot = ap (λ (l : List ℕ). getD l (g .slot) 0) (seen .marks)
+
+      -- a slot that was seen
+      pub seen-twice : (getD used (g .slot) 0 ≡ 0 → ⊥) → false ≡ chainOf k c (take n gs) && apartOf (take n gs)
+      unfolding apartOf
+      seen-twice h =
+          let bad : apartOf (drop (i - 1) (take n gs)) ≡ false =
+          ap apartOf one-more ∙ rw (mark-some rest (g .slot) seen-slot (λ z. h (at-slot ∙ z))) refl in
+          not-so _ (λ q. both-ways _ (apart-drop (i - 1) (take n gs) (and-both (chainOf k c (take n gs)) (apartOf (take n gs)) q .1)) bad)
+
+      -- one segment more
+      pub seen-more : getD used (g .slot) 0 ≡ 0 → Seen k c n gs (set used (g .slot) 1) g (i - 1)
+      unfolding apartOf marksOf
+      seen-more h =
+          record {
+            long = seen .long;
+            within = omega (arith, seen .within);
+            chain = step ∙ good;
+            apart = ap apartOf one-more
+                ∙ both-and (freshIn (g .slot) rest) (apartOf rest) (mark-none rest (g .slot) seen-slot (sym at-slot ∙ h)) (seen .apart);
+            marks = ap (λ (l : List ℕ). set l (g .slot) 1) (seen .marks) ∙ ap marksOf (sym one-more);
+            next = λ h. refl;
+          }
+
+-- all have been seen
+pub seen-all : (k c n : ℕ) (gs : List Segment) (used : List ℕ) (later : Segment) (i : ℕ) → Seen k c n gs used later i → i ≡ 0
+    → true ≡ chainOf k c (take n gs) && apartOf (take n gs)
+seen-all k c n gs used later i seen z =
+    let none : drop i (take n gs) ≡ take n gs = ap (λ (j : ℕ). drop j (take n gs)) z in
+    sym (both-and (chainOf k c (take n gs)) (apartOf (take n gs)) (ap (chainOf k c) (sym none) ∙ seen .chain) (ap apartOf (sym none) ∙ seen .apart))
