@@ -1,0 +1,5 @@
+pub mod Copy
+pub mod Plain
+pub mod Placing
+pub mod Arranging
+pub mod Groups
