@@ -3,3 +3,4 @@ pub mod Plain
 pub mod Placing
 pub mod Arranging
 pub mod Groups
+pub mod Whole
