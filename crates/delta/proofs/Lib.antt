@@ -4,3 +4,4 @@ pub mod Placing
 pub mod Arranging
 pub mod Groups
 pub mod Whole
+pub mod Unique
