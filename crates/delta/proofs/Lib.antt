@@ -1,0 +1,7 @@
+pub mod Copy
+pub mod Plain
+pub mod Placing
+pub mod Arranging
+pub mod Groups
+pub mod Whole
+pub mod Unique

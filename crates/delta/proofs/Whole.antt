@@ -1,0 +1,203 @@
+-- Asking for a key twice after the reading comes to the same as asking at each row; and the two groups of a reading, taken together.
+-- Assumes nothing.
+use Prim.Native.Nat.{ℕ, zero, suc, _+_, _-_, _<_, _≤_}
+use mathlib.Core.Bool.{Bool, true, false, _||_}
+use mathlib.Core.List.{List, [], _∷_, _++_, append-assoc, append-nil, Permᴰ·middle}
+use mathlib.Core.Logic.{⊎-elim}
+use mathlib.Core.Path.{_≡_, refl, ap, ap₂, sym, subst, _∙_}
+use lib.ListN.{length}
+use native.Mathlib.Omega.{arith}
+use borrow.Author.Tests.{lt-ltb, le-ltb}
+use denote.Enum.Declared as Declared
+use types.Run.{OneOf}
+use Rattle.lists.specs.Choice.{pick}
+use Rattle.little_endian.specs.LittleEndian.{u32At}
+use Rattle.little_endian.specs.declared.U32At.{U32At}
+use Rattle.little_endian.specs.declared.U32At.the-variants.{Value, Short}
+use Rattle.keys.specs.Sort.{has, any, sortBy, clash}
+use Rattle.keys.proofs.Sorting.{perm-clash}
+use Rattle.delta.specs.Table.{rowKey, rowsOf, tableOf, Plain, arrangedOf}
+use Rattle.delta.specs.Reading.{Reading, Reading.ends, Reading.row, eraseAt, reinstateAt, counted, group, reinstates, reading, walk, refusedOf, answered, decodedOf, prepend, onward, Reads, WholeRead}
+use Rattle.delta.specs.declared.Row.{Row}
+use Rattle.delta.specs.declared.Table.{Table}
+use Rattle.delta.specs.declared.Read.{Read}
+use Rattle.delta.specs.declared.Decoded.{Decoded}
+use Rattle.delta.specs.declared.Arranged.{Arranged}
+use Rattle.delta.specs.declared.Decoding.{Decoding}
+use Rattle.delta.specs.declared.Decoding.the-variants.{Consumed, EndsEarly, OverLimit, Duplicate}
+use Rattle.delta.proofs.Decoding as DecodingType
+use Rattle.delta.proofs.Plain.{table-plain}
+
+any-append : {A : Type 0} (p : A → Bool) (xs ys : List A) → any p (xs ++ ys) ≡ any p xs || any p ys
+unfolding any
+any-append p [] ys = refl
+any-append p (x ∷ xs) ys = ap (λ (t : Bool). p x || t) (any-append p xs ys) ∙ assoc (p x) (any p xs) (any p ys)
+  where
+    assoc : (a b c : Bool) → a || (b || c) ≡ (a || b) || c
+    assoc true b c = refl
+    assoc false b c = refl
+
+-- a row whose key an earlier one has
+clash-met : (seen : List Row) (r : Row) (xs : List Row) → has rowKey (r .key) seen ≡ true → clash rowKey (seen ++ (r ∷ xs)) ≡ true
+unfolding clash
+clash-met seen r xs h = perm-clash rowKey (Permᴰ·middle r seen xs) ∙ rw (any-append _ seen xs, h)
+
+-- a row whose key no earlier one has
+clash-new : (seen : List Row) (r : Row) → has rowKey (r .key) seen ≡ false → clash rowKey seen ≡ false → clash rowKey (seen ++ (r ∷ [])) ≡ false
+unfolding clash
+clash-new seen r h c = perm-clash rowKey (Permᴰ·middle r seen []) ∙ rw (append-nil, h, c)
+
+-- asking at each row whether an earlier one has its key is asking at the end whether two have one key
+pub walk-rows : (seen xs : List Row) (e : Decoding) → clash rowKey seen ≡ false
+    → walk seen (prepend xs (ends e)) ≡ pick (clash rowKey (seen ++ xs)) (Duplicate, []) (e, seen ++ xs)
+unfolding walk prepend
+walk-rows seen [] e c = rw (append-nil, c)
+walk-rows seen (x ∷ xs) e c = go (has rowKey (x .key) seen) refl (λ n. walk-rows (seen ++ (x ∷ [])) xs e (clash-new seen x n c))
+  where
+    go : (b : Bool) → has rowKey (x .key) seen ≡ b
+        → (has rowKey (x .key) seen ≡ false → walk (seen ++ (x ∷ [])) (prepend xs (ends e))
+        ≡ pick (clash rowKey ((seen ++ (x ∷ [])) ++ xs)) (Duplicate, []) (e, (seen ++ (x ∷ [])) ++ xs))
+        → pick b (Duplicate, []) (walk (seen ++ (x ∷ [])) (prepend xs (ends e))) ≡ pick (clash rowKey (seen ++ (x ∷ xs))) (Duplicate, []) (e, seen ++ (x ∷ xs))
+    go true h ih = rw (clash-met seen x xs h)
+    go false h ih = ih h ∙ ap (λ (l : List Row). pick (clash rowKey l) (Duplicate, []) (e, l)) (append-assoc seen (x ∷ []) xs)
+
+-- what decoding answers, by the rows that were read in full and how the reading ended
+pub decoded-read : (most : ℕ) (s : List ℕ) (xs : List Row) (e : Decoding) → reading most s ≡ prepend xs (ends e)
+    → decodedOf most s ≡ pick (clash rowKey xs) (refusedOf Duplicate) (answered e xs)
+decoded-read most s xs e q =
+    ap (λ (w : Decoding × List Row). answered (w .0) (w .1)) (ap (walk []) q ∙ walk-rows [] xs e none) ∙ go (clash rowKey xs)
+  where
+    none : clash rowKey [] ≡ false
+    none = unfold clash in refl
+
+    go : (b : Bool) → answered (pick {A = Decoding × List Row} b (Duplicate, []) (e, xs) .0) (pick {A = Decoding × List Row} b (Duplicate, []) (e, xs) .1) ≡ pick b (refusedOf Duplicate) (answered e xs)
+    go true = refl
+    go false = refl
+
+-- an answer that is a refusal
+abbrev pub Refused : Decoding → Type 0
+Refused (Consumed n) = ⊥
+Refused EndsEarly = Unit {0}
+Refused OverLimit = Unit {0}
+Refused Duplicate = Unit {0}
+
+-- an answer of another case than the first is a refusal
+pub other-refused : (d : Decoding) → OneOf (1 ∷ 2 ∷ 3 ∷ []) (Declared.tagOf DecodingType.the-type d) → Refused d
+other-refused (Consumed n) h = ⊎-elim (λ (e : 0 ≡ 1). absurd (omega arith)) (λ k. ⊎-elim (λ (e : 0 ≡ 2). absurd (omega arith)) (λ (e : 0 ≡ 3). absurd (omega arith)) k) h
+other-refused EndsEarly h = tt
+other-refused OverLimit h = tt
+other-refused Duplicate h = tt
+
+onward-refused : (d : Decoding) (next : ℕ → Reading) → Refused d → onward d next ≡ ends d
+onward-refused (Consumed n) next h = absurd h
+onward-refused EndsEarly next h = refl
+onward-refused OverLimit next h = refl
+onward-refused Duplicate next h = refl
+
+answered-refused : (d : Decoding) (xs : List Row) → Refused d → answered d xs ≡ refusedOf d
+answered-refused (Consumed n) xs h = absurd h
+answered-refused EndsEarly xs h = refl
+answered-refused OverLimit xs h = refl
+answered-refused Duplicate xs h = refl
+
+-- a reading that ended before the first row
+read-nothing : (most : ℕ) (s : List ℕ) (e : Decoding) (r : Read) → reading most s ≡ ends e → r ≡ record { answer = e; table = tableOf [] } → WholeRead most s r
+unfolding prepend
+read-nothing most s e r q w =
+    record {
+      same = q ∙ sym (ap (λ (x : Read). prepend (rowsOf (x .table)) (ends (x .answer))) w);
+      plain = subst (λ (x : Read). Plain (x .table)) (sym w) (table-plain []);
+    }
+
+module _ (most : ℕ) (s : List ℕ) (w : U32At) (e : w ≡ u32At s 0) where
+  -- the erase count is not whole
+  pub read-short : w ≡ Short → (r : Read) → r ≡ record { answer = EndsEarly; table = tableOf [] } → WholeRead most s r
+  read-short f r q = read-nothing most s EndsEarly r (unfold reading in rw (sym e ∙ f)) q
+
+  module _ (n : ℕ) (f : w ≡ Value n) where
+    -- the erase count passes the limit
+    pub read-over : most < n → (r : Read) → r ≡ record { answer = OverLimit; table = tableOf [] } → WholeRead most s r
+    read-over h r q = read-nothing most s OverLimit r (unfold reading in rw (sym e ∙ f, lt-ltb most n h)) q
+
+    module _ (h : n ≤ most) (size : ℕ) (r : Read) (g : Reads size n [] (λ next. group (eraseAt s) n 4 next) r) where
+      first-group : reading most s ≡ group (eraseAt s) n 4 (λ p. reinstates most s n p)
+      unfolding reading
+      first-group = rw (sym e ∙ f, le-ltb most n h)
+
+      erases : reading most s ≡ prepend (rowsOf (r .table)) (onward (r .answer) (reinstates most s n))
+      erases = first-group ∙ (unfold prepend in (g .same (reinstates most s n)))
+
+      -- the erase group is not whole
+      pub read-erases : Refused (r .answer) → WholeRead most s r
+      read-erases b = record { same = erases ∙ ap (prepend (rowsOf (r .table))) (onward-refused (r .answer) (reinstates most s n) b); plain = g .plain }
+
+      module _ (p : ℕ) (k : r .answer ≡ Consumed p) (v : U32At) (c : v ≡ u32At s p) where
+        behind : reading most s ≡ prepend (rowsOf (r .table)) (reinstates most s n p)
+        behind = erases ∙ ap (λ (d : Decoding). prepend (rowsOf (r .table)) (onward d (reinstates most s n))) k
+
+        -- the reinstate count is not whole
+        pub read-cut : v ≡ Short → WholeRead most s (record { answer = EndsEarly; table = r .table })
+        read-cut b = record { same = behind ∙ ap (prepend (rowsOf (r .table))) (unfold reinstates in rw (sym c ∙ b)); plain = g .plain }
+
+        module _ (m : ℕ) (b : v ≡ Value m) where
+          -- the counts together pass the limit
+          pub read-many : most < n + m → WholeRead most s (record { answer = OverLimit; table = r .table })
+          read-many o = record { same = behind ∙ ap (prepend (rowsOf (r .table))) (unfold reinstates in rw (sym c ∙ b, lt-ltb most (n + m) o)); plain = g .plain }
+
+          -- both groups
+          pub read-both : n + m ≤ most → (size' : ℕ) (q : Read)
+              → Reads size' (r .table .count + m) (rowsOf (r .table)) (λ next. group (reinstateAt s) m (p + 4) next) q → WholeRead most s q
+          read-both o size' q z =
+              record {
+                same = behind ∙ ap (prepend (rowsOf (r .table))) both
+                    ∙ z .same (λ i. ends (Consumed i)) ∙ ap (prepend (rowsOf (q .table))) (last (q .answer));
+                plain = z .plain;
+              }
+            where
+              both : reinstates most s n p ≡ group (reinstateAt s) m (p + 4) (λ q. ends (Consumed q))
+              both = unfold reinstates in rw (sym c ∙ b, le-ltb most (n + m) o)
+
+              last : (d : Decoding) → onward d (λ i. ends (Consumed i)) ≡ ends d
+              last (Consumed i) = refl
+              last EndsEarly = refl
+              last OverLimit = refl
+              last Duplicate = refl
+
+-- what `decode` answers, by the rows put in order
+module _ (most : ℕ) (s : List ℕ) (r : Read) (w : WholeRead most s r) (a : Arranged) (q : a ≡ arrangedOf (rowsOf (r .table))) where
+  told : (b : Bool) → clash rowKey (rowsOf (r .table)) ≡ b → (a .twins ≡ b) × (b ≡ false → a .table ≡ tableOf (sortBy rowKey (rowsOf (r .table))))
+  told true c =
+      let z : a ≡ record { twins = true; table = tableOf [] } = q ∙ rw c in
+      (ap (λ (x : Arranged). x .twins) z, λ f. absurd (let o : _≡_ {A = ℕ} 0 1 = cc in omega arith))
+  told false c =
+      let z : a ≡ record { twins = false; table = tableOf (sortBy rowKey (rowsOf (r .table))) } = q ∙ rw c in
+      (ap (λ (x : Arranged). x .twins) z, λ f. ap (λ (x : Arranged). x .table) z)
+
+  same : a .twins ≡ clash rowKey (rowsOf (r .table))
+  same = told (clash rowKey (rowsOf (r .table))) refl .0
+
+  whole : decodedOf most s ≡ pick (clash rowKey (rowsOf (r .table))) (refusedOf Duplicate) (answered (r .answer) (rowsOf (r .table)))
+  whole = decoded-read most s (rowsOf (r .table)) (r .answer) (w .same)
+
+  -- a key twice
+  pub decode-twins : a .twins ≡ true → decodedOf most s ≡ refusedOf Duplicate
+  decode-twins t =
+      let c : clash rowKey (rowsOf (r .table)) ≡ true = sym same ∙ t in
+      whole ∙ rw c
+
+  module _ (t : a .twins ≡ false) where
+    once : decodedOf most s ≡ answered (r .answer) (rowsOf (r .table))
+    once =
+        let c : clash rowKey (rowsOf (r .table)) ≡ false = sym same ∙ t in
+        whole ∙ rw c
+
+    -- another fault
+    pub decode-fault : Refused (r .answer) → decodedOf most s ≡ refusedOf (r .answer)
+    decode-fault b = once ∙ answered-refused (r .answer) (rowsOf (r .table)) b
+
+    -- no fault
+    pub decode-good : (n : ℕ) → r .answer ≡ Consumed n → _≡_ {A = Decoded} (record { answer = Consumed n; table = a .table }) (decodedOf most s)
+    decode-good n e =
+        let c : a .table ≡ tableOf (sortBy rowKey (rowsOf (r .table))) =
+        told (clash rowKey (rowsOf (r .table))) refl .1 (sym same ∙ t) in
+        (λ i. record { answer = Consumed n; table = c i }) ∙ sym (once ∙ ap (λ (d : Decoding). answered d (rowsOf (r .table))) e)
