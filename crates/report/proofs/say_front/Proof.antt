@@ -1,23 +1,21 @@
+-- `report::say_front`: a front of n bytes has n bytes.
+-- Assumes nothing.
+use mathlib.Core.Path.{sym}
+use native.Mathlib.Omega.{arith}
+use lib.Seq.{length-take-le}
 use borrow.Author.Needs.{needs}
 use Rattle.report.proofs.say_front.Statement.{statement}
 use Rattle.report.proofs.say_front.Tie as tie
-use Rattle.report.proofs.say_front.Reads as reads
-use Rattle.report.proofs.say_front.Lts as lts
-use Rattle.report.proofs.say.Reads as say-reads
 
--- src/lib.rt:12:13
 slice-aggregate-say : tie.Need-slice-aggregate-say
-slice-aggregate-say c = ?
+slice-aggregate-say c = let a = c .before .before .before .args in sym (length-take-le (a .n) (a .bytes .now) (omega arith))
 
--- src/lib.rt:12:9
 say-requires : tie.Need-say-requires
 say-requires c κs = search needs
 
--- src/lib.rt:10:1
 returns : tie.Need-returns
 returns c = search needs
 
--- src/lib.rt:10:1
 returns-2 : tie.Need-returns-2
 returns-2 c = search needs
 
