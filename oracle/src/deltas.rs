@@ -78,9 +78,9 @@ fn answers(ours: &ffi::Decoded, expected: &Result<(Vec<Row>, usize), u32>) -> bo
     };
     let expected_rows = rows.iter().map(|row| {
         let (offset, length) = row.value.unwrap_or((0, 0));
-        DeltaRow { key: row.key, present: row.value.is_some() as u8, offset: offset as u64, length: length as u32 }
+        DeltaRow { key: row.key, present: row.value.is_some() as u8, offset: offset as u64, length: length as u32, ..Default::default() }
     });
-    ours.refusal == refusal
+    (ours.refusal, ours.reserved) == (refusal, 0)
         && ours.consumed == consumed
         && ours.table.count == rows.len() as u64
         && expected_rows.chain(std::iter::repeat(DeltaRow::default())).zip(&ours.table.rows).all(|(row, our)| row == *our)
@@ -133,7 +133,7 @@ impl EncodeCase {
         let answer = ffi::delta_encode(&self.table, values.content(), out.content_mut());
         let stays = values.content() == &self.values[..] && values.guards_intact() && out.guards_intact();
         let written = out.content()[..length] == expected[..length] && out.content()[length..] == before[length..];
-        if answer != (Written { refusal, length: length as u64 }) || !stays || !written {
+        if answer != (Written { refusal, length: length as u64, ..Default::default() }) || !stays || !written {
             return self.differs(table, format!("{:?}, expected {} and {} bytes", answer, refusal, length));
         }
         match refusal {
@@ -162,14 +162,23 @@ impl EncodeCase {
     fn differs(&self, table: &mut Table, what: String) {
         let rows = &self.table.rows[..self.table.count.min(LIMIT) as usize];
         table.differs(rows.len() * 56 + self.values.len() + self.out_length, || {
-            format!("  encode, count {}, rows {:?}, values {}, output {}: {}", self.table.count, rows, hex(&self.values), self.out_length, what)
+            format!(
+                "  encode, count {}, rows {:?}, values {}, output {}: {}",
+                self.table.count,
+                rows,
+                hex(&self.values),
+                self.out_length,
+                what
+            )
         });
     }
 }
 
 /// A valid table in any order, with odd marks, and now and then damaged: a value outside, a key twice, a count over the limit.
 fn encode_case(rng: &mut Rng) -> EncodeCase {
-    let mut draft = usual_draft(rng);
+    // A count over the limit stands on 256 good rows, so that nothing but the count is wrong.
+    let over_limit = rng.once_in(40);
+    let mut draft = if over_limit { draft(rng, LIMIT as usize, 50) } else { usual_draft(rng) };
     draft.rows.truncate(LIMIT as usize);
     let encoded_length = draft.bytes().len();
     let mut table = Delta { count: draft.rows.len() as u64, rows: [DeltaRow::default(); 256] };
@@ -177,7 +186,9 @@ fn encode_case(rng: &mut Rng) -> EncodeCase {
         *row = match draft.rows.get(place) {
             Some(row) => exported_row(rng, row),
             None if rng.once_in(2) => DeltaRow::default(),
-            None => DeltaRow { key: [rng.next() as u8; 32], present: 1, offset: rng.next(), length: rng.next() as u32 },
+            None => {
+                DeltaRow { key: [rng.next() as u8; 32], present: 1, offset: rng.next(), length: rng.next() as u32, ..Default::default() }
+            }
         };
     }
     let (values, count) = (draft.values, table.count);
@@ -192,7 +203,7 @@ fn encode_case(rng: &mut Rng) -> EncodeCase {
         key[31] ^= rng.below(2) as u8;
         table.rows[rng.below(count) as usize].key = key;
     }
-    if rng.once_in(30) {
+    if over_limit {
         table.count = rng.pick_number(&[257, 258, 1 << 16, 1 << 32, u64::MAX]);
     }
     let out_length = match rng.below(6) {
@@ -204,16 +215,12 @@ fn encode_case(rng: &mut Rng) -> EncodeCase {
     EncodeCase { table, values, out_length }
 }
 
-/// A row as the C interface has it: any mark but 0 is present, and an absent row's place is ignored.
+/// A row as the C interface has it: any mark but 0 is present, an absent row's place and the reserved bytes are ignored.
 fn exported_row(rng: &mut Rng, row: &Row) -> DeltaRow {
-    match row.value {
-        Some((at, length)) => {
-            let present = rng.pick_number(&[1, 1, 1, 2, 128, 255]) as u8;
-            DeltaRow { key: row.key, present, offset: at as u64, length: length as u32 }
-        }
-        None => {
-            let junk = rng.pick_number(&[0, 0, 1, u64::MAX]);
-            DeltaRow { key: row.key, present: 0, offset: junk, length: junk as u32 }
-        }
-    }
+    let junk = rng.pick_number(&[0, 0, 1, u64::MAX]);
+    let (present, offset, length) = match row.value {
+        Some((at, length)) => (rng.pick_number(&[1, 1, 1, 2, 128, 255]) as u8, at as u64, length as u32),
+        None => (0, junk, junk as u32),
+    };
+    DeltaRow { key: row.key, present, reserved: [junk as u8; 7], offset, length, reserved_too: junk as u32 }
 }

@@ -1,5 +1,5 @@
 //! The C interface of the proved archive: its structs and functions, as the header fixes them.
-//! Safe wrappers take slices; an empty slice goes as NULL. Each group is there where the archive has it.
+//! Safe wrappers take slices; an empty one goes as NULL. Reserved fields are 0 in an answer. A group is there where the archive has it.
 
 #![allow(dead_code)]
 
@@ -33,15 +33,25 @@ pub struct Image {
     pub size: u64,
 }
 
+/// K, C and M of a log.
+#[derive(Clone, Copy, PartialEq, Debug)]
+pub struct Shape {
+    pub k: u64,
+    pub c: u64,
+    pub m: u64,
+}
+
 #[repr(C)]
 pub struct Logged {
     pub refusal: u32,
+    pub reserved: u32,
     pub log: Log,
 }
 
 #[repr(C)]
 pub struct Appended {
     pub refusal: u32,
+    pub reserved: u32,
     pub id: u64,
     pub log: Log,
 }
@@ -49,22 +59,25 @@ pub struct Appended {
 #[repr(C)]
 pub struct Recovered {
     pub refusal: u32,
+    pub reserved: u32,
     pub rows: u64,
     pub log: Log,
 }
 
 #[repr(C)]
-#[derive(PartialEq, Debug)]
+#[derive(PartialEq, Debug, Default)]
 pub struct Part {
     pub refusal: u32,
+    pub reserved: u32,
     pub at: u64,
     pub length: u64,
 }
 
 #[repr(C)]
-#[derive(PartialEq, Debug)]
+#[derive(PartialEq, Debug, Default)]
 pub struct Written {
     pub refusal: u32,
+    pub reserved: u32,
     pub length: u64,
 }
 
@@ -80,8 +93,10 @@ pub struct Parsed {
 pub struct DeltaRow {
     pub key: [u8; 32],
     pub present: u8,
+    pub reserved: [u8; 7],
     pub offset: u64,
     pub length: u32,
+    pub reserved_too: u32,
 }
 
 #[repr(C)]
@@ -94,6 +109,7 @@ pub struct Delta {
 #[repr(C)]
 pub struct Decoded {
     pub refusal: u32,
+    pub reserved: u32,
     pub consumed: u64,
     pub table: Delta,
 }
@@ -180,8 +196,8 @@ mod logs {
         fn iflughan_payload(log: Log, area: *const u8, area_len: usize, id: u64, slot: u64, offset: u64, length: u64) -> Part;
     }
 
-    pub fn new(k: u64, c: u64, m: u64, area: &mut [u8]) -> Logged {
-        unsafe { iflughan_new(k, c, m, pointer_mut(area), area.len()) }
+    pub fn new(shape: Shape, area: &mut [u8]) -> Logged {
+        unsafe { iflughan_new(shape.k, shape.c, shape.m, pointer_mut(area), area.len()) }
     }
 
     pub fn append(log: &Log, area: &mut [u8], payload: &[u8]) -> Appended {
@@ -196,31 +212,11 @@ mod logs {
         unsafe { iflughan_prune_recent(*log, pointer_mut(area), area.len(), new_end_live) }
     }
 
-    /// K, C and M of a log.
-    #[derive(Clone, Copy, Debug)]
-    pub struct Shape {
-        pub k: u64,
-        pub c: u64,
-        pub m: u64,
-    }
-
     pub fn recover(shape: Shape, area: &mut [u8], images: &[Image], s: u64, e: u64, index: &mut [u64]) -> Recovered {
         let Shape { k, c, m } = shape;
         let (area_len, index_words) = (area.len(), index.len());
         unsafe {
-            iflughan_recover(
-                k,
-                c,
-                m,
-                pointer_mut(area),
-                area_len,
-                pointer(images),
-                images.len(),
-                s,
-                e,
-                pointer_mut(index),
-                index_words,
-            )
+            iflughan_recover(k, c, m, pointer_mut(area), area_len, pointer(images), images.len(), s, e, pointer_mut(index), index_words)
         }
     }
 

@@ -13,11 +13,19 @@ mod deltas;
 mod departures;
 mod ffi;
 mod lent;
+mod log_cases;
+mod log_model;
+#[cfg(logs)]
+mod log_recovery;
+#[cfg(logs)]
+mod logs;
 mod name_cases;
 #[cfg(names)]
 mod names;
 mod original;
+mod original_log;
 mod record;
+mod record_logs;
 mod rng;
 mod table;
 
@@ -31,6 +39,8 @@ const PARTS: &[Part] = &[
     ("names", 500_000, names::run),
     #[cfg(deltas)]
     ("deltas", 300_000, deltas::run),
+    #[cfg(logs)]
+    ("logs", 2_500_000, logs::run),
 ];
 
 fn main() {
@@ -53,7 +63,7 @@ fn compare(name: &str, size: Option<u64>, seed: u64) {
     if chosen.is_empty() {
         usage();
     }
-    original::silence_panics();
+    original::silence_its_panics();
     let (mut cases, mut differences) = (0, 0);
     for (_, usual_size, run) in chosen {
         let table = run(size.unwrap_or(*usual_size), seed);
@@ -67,6 +77,6 @@ fn compare(name: &str, size: Option<u64>, seed: u64) {
 
 fn usage() -> ! {
     let parts: Vec<&str> = PARTS.iter().map(|part| part.0).collect();
-    eprintln!("usage: oracle/run PART|all [SIZE] [SEED], oracle/run claim, oracle/run departures; parts of this archive: {}", parts.join(", "));
+    eprintln!("usage: oracle/run PART|all [SIZE] [SEED], or claim, or departures; the parts that this archive has: {}", parts.join(", "));
     std::process::exit(2)
 }

@@ -39,12 +39,12 @@ fn compare_write(table: &mut Table, prefix: &str, id: u32, length: usize) {
 
     let mut after = before;
     let expected = if prefix.is_empty() {
-        ffi::Written { refusal: 30, length: 0 }
+        ffi::Written { refusal: 30, ..Default::default() }
     } else if length < name.len() {
-        ffi::Written { refusal: 36, length: 0 }
+        ffi::Written { refusal: 36, ..Default::default() }
     } else {
         after[..name.len()].copy_from_slice(name.as_bytes());
-        ffi::Written { refusal: 0, length: name.len() as u64 }
+        ffi::Written { length: name.len() as u64, ..Default::default() }
     };
     if answer != expected || out.content() != &after[..] || !out.guards_intact() {
         return table.differs(prefix.len() + length, || {

@@ -3,25 +3,42 @@
 
 use std::collections::HashMap;
 use std::io::Cursor;
-use std::panic::catch_unwind;
+use std::panic::{catch_unwind, AssertUnwindSafe};
+use std::sync::atomic::{AtomicBool, Ordering};
 
 #[path = "../../target/oracle/original/delta.rs"]
 mod delta;
-#[path = "../../target/oracle/original/segment_filename.rs"]
-mod segment_filename;
 #[path = "../../target/oracle/original/seglog/mod.rs"]
 #[allow(dead_code)]
-mod seglog;
+pub mod seglog;
+#[path = "../../target/oracle/original/segment_filename.rs"]
+mod segment_filename;
 
 pub use delta::Delta;
 pub type Priors = HashMap<[u8; 32], Option<Vec<u8>>>;
 
-/// Keeps the panics that the comparison catches from being printed.
-pub fn silence_panics() {
-    std::panic::set_hook(Box::new(|_| ()));
+static PANIC_ALLOWED: AtomicBool = AtomicBool::new(false);
+
+/// Keeps the panics of the original, which are answers here, from being printed.
+pub fn silence_its_panics() {
+    let usual = std::panic::take_hook();
+    std::panic::set_hook(Box::new(move |panic| {
+        if !PANIC_ALLOWED.load(Ordering::Relaxed) {
+            usual(panic);
+        }
+    }));
 }
 
-fn number(error: &anyhow::Error, texts: &[(&str, u32)]) -> u32 {
+/// Runs a function of the original that may panic.
+pub fn catching<T>(call: impl FnOnce() -> T) -> std::thread::Result<T> {
+    PANIC_ALLOWED.store(true, Ordering::Relaxed);
+    let answer = catch_unwind(AssertUnwindSafe(call));
+    PANIC_ALLOWED.store(false, Ordering::Relaxed);
+    answer
+}
+
+/// The number that the error's text stands for.
+pub fn number(error: &anyhow::Error, texts: &[(&str, u32)]) -> u32 {
     let text = format!("{:#}", error);
     let found = texts.iter().find(|(part, _)| text.contains(part));
     found.unwrap_or_else(|| unreachable!("an error text of the original that has no number: {}", text)).1
@@ -39,7 +56,7 @@ pub fn name_parse(prefix: &str, name: &str) -> Result<u32, u32> {
         ("must be exactly 10 digits", 34),
         ("Failed to parse segment ID", 35),
     ];
-    let parsed = catch_unwind(|| segment_filename::parse(prefix, name)).map_err(|_| 30u32)?;
+    let parsed = catching(|| segment_filename::parse(prefix, name)).map_err(|_| 30u32)?;
     parsed.map_err(|error| number(&error, &texts))
 }
 

@@ -5,15 +5,18 @@ use crate::delta_cases::{draft, input, usual_draft};
 use crate::delta_model::{decode, sorted};
 use crate::name_cases::{id_of, mutated_case, PREFIXES};
 use crate::original;
+use crate::record_logs;
 use crate::rng::Rng;
 use crate::table::hex;
 use std::collections::HashMap;
 use std::io::Write;
 
 /// Lines of one class, and lines of one class that are longer than LONG.
-const MOST: usize = 250;
-const MOST_LONG: usize = 3;
+const MOST: usize = 150;
+const MOST_LONG: usize = 2;
 const LONG: usize = 4000;
+/// No line is longer: the replay reads a line into a fixed buffer.
+const LONGEST: usize = 40_000;
 const DRAWS: usize = 60_000;
 
 struct Sample {
@@ -26,7 +29,7 @@ impl Sample {
     fn offer(&mut self, class: String, line: String) {
         let long = line.len() > LONG;
         let taken = self.taken.entry((class, long)).or_insert(0);
-        if *taken < if long { MOST_LONG } else { MOST } {
+        if line.len() <= LONGEST && *taken < if long { MOST_LONG } else { MOST } {
             *taken += 1;
             self.lines.push(line);
         }
@@ -34,7 +37,7 @@ impl Sample {
 }
 
 pub fn write(path: &str, seed: u64) -> std::io::Result<()> {
-    original::silence_panics();
+    original::silence_its_panics();
     let mut sample = Sample { lines: Vec::new(), taken: HashMap::new() };
     let mut rng = Rng::new(seed);
     for _ in 0..DRAWS {
@@ -44,6 +47,7 @@ pub fn write(path: &str, seed: u64) -> std::io::Result<()> {
         encoded_delta(&mut sample, &mut rng);
     }
     sample.lines.sort_by_key(|line| line.as_bytes()[0]);
+    sample.lines.extend(record_logs::lines(seed));
     let mut file = std::fs::File::create(path)?;
     sample.lines.iter().try_for_each(|line| writeln!(file, "{}", line))
 }

@@ -6,7 +6,7 @@ use std::collections::BTreeMap;
 use std::time::Instant;
 
 pub struct Table {
-    title: String,
+    pub title: String,
     started: Instant,
     classes: BTreeMap<String, (u64, Option<&'static Departure>)>,
     pub cases: u64,
