@@ -40,10 +40,7 @@ impl Folder {
     /// A new folder on a memory-backed file system where there is one.
     pub fn new(name: &str) -> Folder {
         let shared_memory = PathBuf::from("/dev/shm");
-        let place = std::env::var_os("TMPDIR").map(PathBuf::from).unwrap_or_else(|| match shared_memory.is_dir() {
-            true => shared_memory,
-            false => std::env::temp_dir(),
-        });
+        let place = if shared_memory.is_dir() { shared_memory } else { std::env::temp_dir() };
         let path = place.join(format!("iflughan-oracle-{}-{}", std::process::id(), name));
         fs::create_dir_all(&path).expect("a folder for the original's files");
         Folder { path }
