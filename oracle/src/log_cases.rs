@@ -237,6 +237,7 @@ pub fn range(rng: &mut Rng, (lowest, highest): (u64, u64)) -> (u64, u64) {
         5 => s = 1,
         6 => s = rng.pick_number(&[s ^ 1 << 32, highest, highest.saturating_add(1)]),
         7..=12 => return (lowest, highest),
+        13 => return (lowest.saturating_sub(2).max(1), lowest.saturating_sub(1).max(1)),
         _ => (),
     }
     (s, e)
