@@ -1,0 +1,3 @@
+pub mod Any
+pub mod Writes
+pub mod Whole
