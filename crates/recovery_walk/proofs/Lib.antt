@@ -1,0 +1,3 @@
+pub mod StepCases
+pub mod RecordCases
+pub mod RowWords
