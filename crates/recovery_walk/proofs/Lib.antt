@@ -1,3 +1,4 @@
 pub mod StepCases
 pub mod RecordCases
 pub mod RowWords
+mod ImagesTurn

@@ -5,7 +5,7 @@ ghost use mathlib.Core.Bool.{false};
 ghost use lib.ListN.{take, replicate};
 ghost use Rattle.seglog.specs.Log.{noSegment};
 ghost use Rattle.recovery_walk.specs.Images.{startOf, openedOf, filledOf, faultOf, images, refused, WalkPre};
-ghost use Rattle.recovery_walk.specs.Scan.{scannedOf};
+ghost use Rattle.recovery_walk.specs.Scan.{scannedOf, settledOf};
 use crate::ImageRow;
 use crate::Scan;
 use crate::Scanned;
@@ -89,6 +89,16 @@ pub(crate) fn refusal(fault: u32) -> Scanned
     Scanned { fault, scan, segs }
 }
 
+// The walk's end: the last state and the segments, or a refusal.
+fn settled(fault: u32, scan: Scan, segs: [Segment; 64]) -> Scanned
+    ensures { λ r. ⌜ r ≡ settledOf fault scan segs ⌝ }
+{
+    if fault != 0 {
+        return refusal(fault);
+    }
+    Scanned { fault, scan, segs }
+}
+
 // The images of the first `count` rows, in slots of c bytes.
 pub(crate) fn walk(
     area: &[u8],
@@ -128,8 +138,5 @@ pub(crate) fn walk(
         gap = size == 0;
         i += 1;
     }
-    if fault != 0 {
-        return refusal(fault);
-    }
-    Scanned { fault, scan, segs }
+    settled(fault, scan, segs)
 }
