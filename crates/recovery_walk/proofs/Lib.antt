@@ -2,3 +2,4 @@ pub mod StepCases
 pub mod RecordCases
 pub mod RowWords
 mod ImagesTurn
+mod RowsTurn

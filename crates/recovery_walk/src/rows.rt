@@ -48,8 +48,7 @@ pub(crate) fn write_rows(
     'images: while i < count {
         let row = rows[i];
         let size = row.size;
-        let slot = row.slot;
-        let from = (slot as u64 * c) as usize;
+        let from = (row.slot as u64 * c) as usize;
         let img = &area[from..from + size as usize];
         scan = walk::opened(scan);
         'records: while steps::more(scan, size) {
@@ -58,7 +57,7 @@ pub(crate) fn write_rows(
                 break 'records;
             };
             let live = steps::is_live(s, e, next.last);
-            at = put_live(&mut *index, at, live, slot, next);
+            at = put_live(&mut *index, at, live, row.slot, next);
             scan = next;
         }
         i += 1;
