@@ -14,7 +14,7 @@ use Rattle.recovery_walk.specs.declared.Step.{Step}
 use Rattle.recovery_walk.specs.declared.Step.the-variants.{Next, Fault}
 use Rattle.recovery_walk.specs.Step.{recordStep, moreOf}
 use Rattle.recovery_walk.specs.Images.{route, recordTurn, records}
-use Rattle.recovery_walk.proofs.StepCases.{step-moves, more-inside}
+use Rattle.recovery_walk.proofs.StepCases.{StepFault, step-moves, step-number, more-inside}
 
 module _ (img : List ℕ) (s e : ℕ) where
   -- a turn's ways, for whatever they show
@@ -70,3 +70,13 @@ module _ (img : List ℕ) (s e : ℕ) where
           record-ways c (stop a) t (λ l q. let same : Next c ≡ a = cc in rw same at (end c l))
           (λ n l m q. let same : Fault n ≡ a = cc in rw same at (fault c n l m))
           (λ x l m q. absurd (let y : _≡_ {A = ℕ} 0 1 = cc in omega arith))
+
+-- a fault among an image's records is 17, 18, 19 or 20
+pub records-number : (img : List ℕ) (s e : ℕ) (c : Scan) (m : ℕ) → records img s e c ≡ Fault m → StepFault m
+records-number img s e c m = records-ind img s e (λ _ a. a ≡ Fault m → StepFault m) (λ c d a h t p. p) fault end c
+  where
+    fault : (c : Scan) (n : ℕ) → moreOf c (length img) ≡ true → recordStep img s e c ≡ Fault n → Fault n ≡ Fault m → StepFault m
+    fault c n h t q = step-number img s e c m (t ∙ q)
+
+    end : (c : Scan) → moreOf c (length img) ≡ false → Next c ≡ Fault m → StepFault m
+    end c h q = absurd (let y : _≡_ {A = ℕ} 0 1 = cc in omega arith)

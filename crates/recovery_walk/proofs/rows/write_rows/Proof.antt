@@ -108,7 +108,7 @@ room-at c =
     (omega (
       arith,
       image-room _ _ _ _ _ _ _ _ _ _ _ (st .pre .0 .few) (length-at st) (im .images .inv) (row-at op .before .before .images-test .taken) _
-      (op .opened .ensures) (st .pre .1),
+          (op .opened .ensures) (st .pre .1),
       re .records .inv .long,
     ))
 
