@@ -1,0 +1,8 @@
+pub mod StepCases
+pub mod RecordCases
+pub mod ImageCases
+pub mod RowWords
+pub mod Count
+mod ImagesTurn
+mod RowsTurn
+mod ScanCases
