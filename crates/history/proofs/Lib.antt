@@ -1,0 +1,3 @@
+pub mod Records
+pub mod WalkLaws
+pub mod CutLaws
