@@ -4,3 +4,8 @@ pub mod CutLaws
 pub mod CountLaws
 pub mod Over
 pub mod Chain
+pub mod Slots
+pub mod Invariant
+pub mod Pigeons
+pub mod Sorts
+pub mod Shape
