@@ -9,3 +9,5 @@ pub mod Invariant
 pub mod Pigeons
 pub mod Sorts
 pub mod Shape
+pub mod Appends
+pub mod Cuts
