@@ -11,3 +11,4 @@ pub mod Sorts
 pub mod Shape
 pub mod Appends
 pub mod Cuts
+pub mod Prunes
