@@ -12,3 +12,5 @@ pub mod Shape
 pub mod Appends
 pub mod Cuts
 pub mod Prunes
+pub mod LogLaws
+pub mod Runs
