@@ -19,11 +19,11 @@ use Rattle.history.proofs.CutLaws.{cut-here, cut-on}
 use Rattle.history.proofs.Over.{Plain}
 use Rattle.history.proofs.Records.{next-place}
 
-pub cut-recordsFrom : (f : ℕ → List ℕ) (n m : ℕ) (pre : List ℕ) (a at : ℕ) → at ≡ length pre → length pre % 4096 ≡ 0 → Plain f a m → a ≤ n → n < a + m
+pub cut-records : (f : ℕ → List ℕ) (n m : ℕ) (pre : List ℕ) (a at : ℕ) → at ≡ length pre → length pre % 4096 ≡ 0 → Plain f a m → a ≤ n → n < a + m
     → findCut (pre ++ recordsFrom f a m) n at ≡ cutAt (length pre + length (recordsFrom f a (n + 1 - a)))
 unfolding recordsFrom
-cut-recordsFrom f n zero pre a at is whole plain low high = absurd (omega arith)
-cut-recordsFrom f n (suc m) pre a at is whole plain low high = go (eqb a n) refl (cut-recordsFrom f n m (pre ++ recordBytes a (f a)) (suc a) (paddedEnd 4096 (at + 12 + length (f a))))
+cut-records f n zero pre a at is whole plain low high = absurd (omega arith)
+cut-records f n (suc m) pre a at is whole plain low high = go (eqb a n) refl (cut-records f n m (pre ++ recordBytes a (f a)) (suc a) (paddedEnd 4096 (at + 12 + length (f a))))
   where
     img : List ℕ
     img = pre ++ (recordBytes a (f a) ++ recordsFrom f (suc a) m)

@@ -14,3 +14,8 @@ pub mod Cuts
 pub mod Prunes
 pub mod LogLaws
 pub mod Runs
+pub mod Scans
+pub mod Deliver
+pub mod Later
+pub mod Kept
+pub mod Same

@@ -15,7 +15,7 @@ use Rattle.seglog.specs.declared.Segment.{Segment}
 use Rattle.seglog_prune.specs.Prune.{Pruning, refused, pruned, pruneOf, dropOld, startedAt, pruneOldestOf, dropNew, keepAt, cutOff, findCut, imageIn, cutAt, pruneRecentOf}
 use Rattle.history.specs.Recorded.{recordsFrom}
 use Rattle.history.proofs.Chain.{clash, Chain, and-both, fresh-cons, cons-fresh, both-and, snoc-apart, chain-join, apart-snoc, front-snoc, head-snoc}
-use Rattle.history.proofs.Cuts.{cut-recordsFrom}
+use Rattle.history.proofs.Cuts.{cut-records}
 use Rattle.history.proofs.Invariant.{Holds, empty-holds, Live}
 use Rattle.history.proofs.Records.{from-front, splice-whole}
 use Rattle.history.proofs.Shape.{holds-fits}
@@ -183,7 +183,7 @@ module _ (a : View) (area : List ℕ) (f : ℕ → List ℕ) (n : ℕ) (h : Hold
       let fit = from-front f (g .min) (n + 1 - g .min) (g .max + 1 - g .min) (omega arith) in
       let found : findCut (imageIn area (a .c) g) n 0 ≡ cutAt (length (recordsFrom f (g .min) (n + 1 - g .min))) =
       ap (λ (l : List ℕ). findCut l n 0) (good .image)
-      ∙ cut-recordsFrom f n (g .max + 1 - g .min) [] (g .min) 0 refl refl (record { small = λ i l u. good .small i l (omega arith); ids = omega (arith, good .top) }) low (omega arith)
+      ∙ cut-records f n (g .max + 1 - g .min) [] (g .min) 0 refl refl (record { small = λ i l u. good .small i l (omega arith); ids = omega (arith, good .top) }) low (omega arith)
       ∙ ap cutAt (omega arith) in
       ap (cutOff a area n hs g) found
       ∙ ap (pruned (endedView a f n hs g)) (splice-whole (g .slot * a .c + g .size) (length (recordsFrom f (g .min) (n + 1 - g .min))) (g .size) area (omega (arith, fit .0, good .long)))
