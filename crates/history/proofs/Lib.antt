@@ -19,3 +19,5 @@ pub mod Deliver
 pub mod Later
 pub mod Kept
 pub mod Same
+pub mod OwnRows
+pub mod Views

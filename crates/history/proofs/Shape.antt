@@ -93,3 +93,8 @@ sizes-few k c m h =
     let d = and-both (leb 1 k && leb k 64 && eqb (c % 4096) 0) (leb 4096 c) (b .0) in
     let e = and-both (leb 1 k && leb k 64) (eqb (c % 4096) 0) (d .0) in
     leb-true k 64 (and-both (leb 1 k) (leb k 64) (e .0) .1)
+
+-- what fits is well shaped, over K x C bytes
+pub fits-both : (a : View) (area : List ℕ) → fitsOf a area ≡ true → shapedOf a && eqb (length area) (a .k * a .c) ≡ true
+unfolding fitsOf
+fits-both a area h = h
