@@ -21,3 +21,5 @@ pub mod Kept
 pub mod Same
 pub mod OwnRows
 pub mod Views
+pub mod IndexRows
+pub mod Theorem
