@@ -23,3 +23,5 @@ pub mod OwnRows
 pub mod Views
 pub mod IndexRows
 pub mod Theorem
+pub mod Recorded
+pub mod Refused

@@ -2,14 +2,14 @@
 -- Assumes nothing.
 use mathlib.Core.Bool.{not, true, _&&_, Bool, false}
 use mathlib.Core.List.{List, [], _∷_}
-use mathlib.Core.Path.{_≡_, ap, refl, subst, sym}
+use mathlib.Core.Path.{_≡_, ap, _∙_, refl, subst, sym}
 use Prim.Native.Nat.{ℕ, _*_}
 use native.Mathlib.Omega.{arith}
 use lib.Dec.{eqb}
 use lib.ListN.{length}
-use borrow.Author.Tests.{ne-eqb, eqb-true}
+use borrow.Author.Tests.{eq-eqb, ne-eqb, eqb-true}
 use Rattle.lists.specs.Choice.{pick}
-use Rattle.seglog.specs.Log.{View, logOf, plainOf, sizesOf, emptyOf, zeroLog}
+use Rattle.seglog.specs.Log.{View, logOf, plainOf, fittingOf, shapedOf, viewOf, sizesOf, emptyOf, zeroLog}
 use Rattle.seglog.specs.New.{newOf, accepted, roomyOf, refusedLog}
 use Rattle.seglog.specs.declared.Log.{Log}
 use Rattle.seglog_append.specs.Append.{Appending, appended, appendLog, appendOf, appendAnswer}
@@ -17,11 +17,11 @@ use Rattle.seglog_prune.specs.Prune.{Pruning, pruned, oldestLog, pruneOldestOf,
 use Rattle.recovery_walk.specs.Images.{after}
 use Rattle.history.specs.History.{Held, append, noted, run, oldest, recent, afterAppend, heard, afterPrune, step, heardCall, Call, told, begun, nothing, lastUnder}
 use Rattle.history.proofs.Appends.{AppendKeeps, append-keeps}
-use Rattle.history.proofs.Chain.{and-both}
+use Rattle.history.proofs.Chain.{and-both, both-and}
 use Rattle.history.proofs.Invariant.{Holds, empty-holds}
 use Rattle.history.proofs.LogLaws.{plain-log, view-log}
 use Rattle.history.proofs.Prunes.{PruneKeeps, oldest-keeps, recent-keeps}
-use Rattle.history.proofs.Shape.{holds-few, sizes-few}
+use Rattle.history.proofs.Shape.{holds-few, sizes-few, fits-both, holds-fits}
 use Rattle.seglog_append.specs.Append as A
 use Rattle.seglog_prune.specs.Prune as P
 
@@ -50,6 +50,14 @@ module _ (a : View) (area : List ℕ) (f : ℕ → List ℕ) (h : Holds a area f
   -- its unused entries are zero
   pub plain : plainOf (logOf a) ≡ true
   plain = plain-log a (omega (arith, holds-few a area f h, sizes-few (a .k) (a .c) (a .m) (h .sizes)))
+
+  -- it is well shaped over any K x C bytes
+  pub log-fitting : (n : ℕ) → n ≡ a .k * a .c → fittingOf (logOf a) n ≡ true
+  unfolding fittingOf
+  log-fitting n all =
+      let shaped = and-both (shapedOf a) (eqb (length area) (a .k * a .c)) (fits-both a area (holds-fits a area f h)) in
+      both-and (plainOf (logOf a)) (shapedOf (viewOf (logOf a)) && eqb n (a .k * a .c)) plain
+      (both-and (shapedOf (viewOf (logOf a))) (eqb n (a .k * a .c)) (ap shapedOf (view-log a) ∙ shaped .0) (eq-eqb n (a .k * a .c) all))
 
   -- the functions of the code's log are those of the view
   pub append-log : (p : List ℕ) → appendLog (logOf a) area p ≡ appendOf a area p

@@ -1,14 +1,13 @@
 -- Demand 3 for logs by their listed segments: a log z over area′ that came from a over area by appends alone.
 -- Assumes nothing.
-use mathlib.Core.Bool.{true, _&&_, false}
+use mathlib.Core.Bool.{true, false}
 use mathlib.Core.List.{List, [], _∷_, _++_}
 use mathlib.Core.Path.{_≡_, sym, _∙_, ap, refl, subst}
 use Prim.Native.Nat.{ℕ, _*_, _-_, _<_, min, _≤_, _+_, zero, suc}
 use native.Mathlib.Omega.{arith}
-use lib.Dec.{eqb}
 use lib.ListN.{length}
-use borrow.Author.Tests.{ne-eqb, le-ltb, eq-eqb, lt-ltb, le-leb}
-use Rattle.seglog.specs.Log.{View, logOf, fitsOf, frontOf, headOf, fittingOf, shapedOf, plainOf, viewOf}
+use borrow.Author.Tests.{ne-eqb, le-ltb, lt-ltb, le-leb, eq-eqb}
+use Rattle.seglog.specs.Log.{View, logOf, fitsOf, frontOf, headOf, fittingOf}
 use Rattle.seglog.specs.New.{roomyOf}
 use Rattle.seglog.specs.declared.Segment.{Segment}
 use Rattle.seglog_prune.specs.Prune.{pruneOldestOf, pruned, pruneRecentOf, Pruning, pruneOf, startedAt, dropOld, dropNew}
@@ -20,20 +19,19 @@ use Rattle.recovery.specs.ImageRows.{sortRows, rowsFit, lowestZero, oneApart}
 use Rattle.recovery.specs.Recovery.{recoveryOf, recovered, keptOf, closedAt, outcomeOf, oneZero}
 use Rattle.history.specs.Demand.{idsIn, rowsFor, AnyOrder}
 use Rattle.history.specs.Recorded.{recordsFrom}
-use Rattle.history.proofs.Chain.{Chain, front-snoc, head-snoc, and-both, both-and}
+use Rattle.history.proofs.Chain.{Chain, front-snoc, head-snoc}
 use Rattle.history.proofs.CountLaws.{all-counts}
 use Rattle.history.proofs.Deliver.{delivered, items, deliver-chain, live-items}
 use Rattle.history.proofs.Invariant.{Holds, Live}
 use Rattle.history.proofs.Kept.{Cutting, cut-all}
 use Rattle.history.proofs.Later.{Grows, After}
-use Rattle.history.proofs.LogLaws.{view-log}
 use Rattle.history.proofs.OwnRows.{has-good, rising-rows, length-rows, inside-rows, apart-rows, lowest-rows, next-rows}
 use Rattle.history.proofs.Prunes.{Inner, live-low, oldest-holds, New, closedBy, at-new, endedView, recent-is, ended-holds}
 use Rattle.history.proofs.Records.{from-agree, from-front, splice-whole}
-use Rattle.history.proofs.Runs.{plain}
+use Rattle.history.proofs.Runs.{log-fitting}
 use Rattle.history.proofs.Same.{chain-same}
 use Rattle.history.proofs.Scans.{Seen, start-seen, Through, through, rowsChain, rows-through}
-use Rattle.history.proofs.Shape.{holds-fits, fits-both, holds-few, sizes-few}
+use Rattle.history.proofs.Shape.{holds-fits, holds-few, sizes-few}
 use Rattle.history.proofs.Slots.{Stored}
 use Rattle.history.proofs.Sorts.{sort-any, length-any, fit-any, apart-any}
 use Rattle.recovery.specs.Recovery as R
@@ -191,12 +189,7 @@ module _ (a : View) (area : List ℕ) (z : View) (area′ : List ℕ) (f f′ : 
 
   -- it fits the later area too
   log-fits : fittingOf (logOf log) (length area′) ≡ true
-  unfolding fittingOf
-  log-fits =
-      let shaped = and-both (shapedOf log) (eqb (length area) (log .k * log .c)) (fits-both log area (holds-fits log area f log-holds)) in
-      both-and (plainOf (logOf log)) (shapedOf (viewOf (logOf log)) && eqb (length area′) (z .k * z .c)) (plain log area f log-holds)
-      (both-and (shapedOf (viewOf (logOf log))) (eqb (length area′) (z .k * z .c)) (ap shapedOf (view-log log) ∙ shaped .0)
-      (eq-eqb (length area′) (z .k * z .c) (h′ .all)))
+  log-fits = log-fitting log area f log-holds (length area′) (h′ .all)
 
   -- ---- the walk at the later moment
 
