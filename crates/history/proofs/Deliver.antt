@@ -73,7 +73,7 @@ live-over s e a h = go (leb s a)
     go true = lt-leb a e h
     go false = refl
 
-live-under : (s e a : ℕ) → a < s → liveOf s e a ≡ false
+pub live-under : (s e a : ℕ) → a < s → liveOf s e a ≡ false
 unfolding liveOf
 live-under s e a h = simp (lt-leb s a h)
 
@@ -173,3 +173,10 @@ module _ (l : Log) (area : List ℕ) (f : ℕ → List ℕ) (s e : ℕ) (fits : 
       ∙ ap (λ (x : ℕ). liveItems f s e x (g .max + 1 - x) ++ liveItems f s e (g .max + 1) (b′ - (g .max + 1))) (t .min)
       ∙ ap (λ (x : ℕ). liveItems f s e b (g .max + 1 - b) ++ liveItems f s e x (b′ - (g .max + 1))) (sym z)
       ∙ sym (ap (liveItems f s e b) y ∙ live-join f s e b (g .max + 1 - b) (b′ - (g .max + 1)))
+
+-- only what f has for their ids counts
+pub items-agree : (f g : ℕ → List ℕ) (n a : ℕ) → ((i : ℕ) → a ≤ i → i < a + n → f i ≡ g i) → items f a n ≡ items g a n
+unfolding items
+items-agree f g zero a h = refl
+items-agree f g (suc n) a h =
+    rw (h a (omega arith) (omega arith), items-agree f g n (suc a) (λ i l u. h i (omega arith) (omega arith)))

@@ -3,7 +3,7 @@
 use mathlib.Core.Bool.{true}
 use mathlib.Core.List.{List, [], _∷_}
 use mathlib.Core.Path.{_≡_, refl}
-use Prim.Native.Nat.{ℕ, _≤_, _*_, _+_, _^_}
+use Prim.Native.Nat.{ℕ, _≤_, _*_, _+_, _^_, _<_}
 use native.Mathlib.Omega.{arith}
 use lib.ListN.{length}
 use Rattle.seglog.specs.Log.{View, sizesOf, apartOf, emptyOf}
@@ -48,3 +48,8 @@ empty-holds k c m area f s l =
       apart = refl;
       live = (refl, refl, refl);
     }
+
+-- where the live end is not 0 there is a segment
+pub some-live : (gs : List Segment) (s e j : ℕ) → 0 < e → Live s e j gs → 0 < length gs
+some-live [] s e j l h = absurd (omega (arith, h .1))
+some-live (g ∷ gs) s e j l h = omega arith

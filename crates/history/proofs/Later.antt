@@ -2,11 +2,12 @@
 -- Assumes nothing.
 use mathlib.Core.Bool.{not, _&&_, Bool, true, false}
 use mathlib.Core.List.{List, [], _∷_, _++_}
-use mathlib.Core.Path.{_≡_, refl, _∙_, sym, subst}
-use Prim.Native.Nat.{_≤_, _-_, _+_, ℕ, _<_}
+use mathlib.Core.Path.{_≡_, refl, _∙_, ap, sym, subst}
+use Prim.Native.Nat.{_≤_, _-_, _+_, _<_, ℕ}
 use native.Mathlib.Omega.{arith}
 use lib.Dec.{ltb, eqb}
 use lib.ListN.{length}
+use borrow.Author.Tests.{ne-eqb}
 use Rattle.lists.proofs.Cases.{pick-either}
 use Rattle.lists.specs.Choice.{pick}
 use Rattle.record.specs.Record.{maxPayload, recordRoom}
@@ -15,8 +16,9 @@ use Rattle.seglog.specs.declared.Segment.{Segment}
 use Rattle.seglog_append.specs.Append.{appendOf, refused, opensOf, nextId, lowestFree, targetOf, Appending, grownOf, freshOf}
 use Rattle.history.specs.History.{append, appends, Held, run, told, step, heardCall}
 use Rattle.history.proofs.Appends.{opens-some}
-use Rattle.history.proofs.Chain.{chain-ends, ends-with}
+use Rattle.history.proofs.Chain.{chain-ends, ends-with, Chain}
 use Rattle.history.proofs.Invariant.{Holds}
+use Rattle.history.proofs.Prunes.{closedBy}
 use Rattle.history.proofs.Runs.{AppendAlso, Came, on-view, came-append}
 use Rattle.history.proofs.Slots.{noted-other, Stored}
 
@@ -58,17 +60,30 @@ grows-last (g ∷ []) (w ∷ hs) y z m h = h
 grows-last (g ∷ x ∷ gs) [] y z m h = absurd (grows-nil x gs (h .1))
 grows-last (g ∷ x ∷ gs) (w ∷ hs) y z m h = (h .0, grows-last (x ∷ gs) hs y z m (h .1))
 
+grows-some : (gs ys : List Segment) → 0 < length gs → Grows gs ys → 0 < length ys
+grows-some [] ys l h = absurd (omega arith)
+grows-some (g ∷ gs) [] l h = absurd (grows-nil g gs h)
+grows-some (g ∷ gs) (y ∷ ys) l h = omega arith
+
+-- segments whose last was cut short have grown to those that were there
+pub ended-grows : (f : ℕ → List ℕ) (hs rest : List Segment) (g : Segment) (e : ℕ) → e ≤ g .max
+    → Grows (hs ++ (closedBy f g e ∷ [])) (hs ++ (g ∷ rest))
+ended-grows f [] rest g e h = record { id = refl; slot = refl; min = refl; max = h }
+ended-grows f (x ∷ []) rest g e h = (refl, ended-grows f [] rest g e h)
+ended-grows f (x ∷ y ∷ hs) rest g e h = (refl, ended-grows f (y ∷ hs) rest g e h)
+
 -- a is what became of a₀ by appends alone
 pub record After (a₀ : View) (f₀ : ℕ → List ℕ) (a : View) (f : ℕ → List ℕ) : Type 0 where
   pub k : a .k ≡ a₀ .k
   pub c : a .c ≡ a₀ .c
   pub m : a .m ≡ a₀ .m
+  pub start : 0 < length (a₀ .segs) → a .start ≡ a₀ .start
   pub end : a₀ .end ≤ a .end
   pub same : (i : ℕ) → i ≤ a₀ .end → f i ≡ f₀ i
   pub grows : Grows (a₀ .segs) (a .segs)
 
 pub after-refl : (a : View) (f : ℕ → List ℕ) → After a f a f
-after-refl a f = record { k = refl; c = refl; m = refl; end = omega arith; same = λ i h. refl; grows = grows-refl (a .segs) }
+after-refl a f = record { k = refl; c = refl; m = refl; start = λ some. refl; end = omega arith; same = λ i h. refl; grows = grows-refl (a .segs) }
 
 -- an append goes on from there
 append-after : (a₀ : View) (f₀ : ℕ → List ℕ) (a : View) (area : List ℕ) (f : ℕ → List ℕ) (p : List ℕ) → Holds a area f → After a₀ f₀ a f
@@ -85,6 +100,9 @@ append-after a₀ f₀ a area f p h w =
       k = w .k;
       c = w .c;
       m = w .m;
+      start = λ some.
+          let left = grows-some (a₀ .segs) (a .segs) some (w .grows) in
+          simp (ne-eqb (length (a .segs)) 0 (λ z. omega arith)) (w .start some);
       end = omega (arith, w .end);
       same = λ i l. sym (noted-other f (a .end + 1) p i (omega (arith, w .end))) ∙ w .same i l;
       grows = by (opensOf a) refl;
@@ -115,3 +133,12 @@ appends-after a₀ f₀ (p ∷ ps) t f c =
     appends-after a₀ f₀ ps (step t (append p)) (heardCall f t (append p))
     (on-view (λ (x : Held). Came (After a₀ f₀) (step x (append p)) (heardCall f x (append p))) t f c
     (came-append (c .view) (t .area) f (c .holds) (After a₀ f₀) (c .also) p (append-after a₀ f₀ (c .view) (t .area) f p (c .holds) (c .also))))
+
+-- the first segment keeps its first record
+pub first-same : (P Q : Segment → Type 0) (gs ys : List Segment) (i b j c i′ b′ j′ c′ : ℕ) → 0 < length gs → Grows gs ys → Chain P i b gs j c
+    → Chain Q i′ b′ ys j′ c′ → b ≡ b′
+first-same P Q [] ys i b j c i′ b′ j′ c′ l w h h′ = absurd (omega arith)
+first-same P Q (g ∷ []) [] i b j c i′ b′ j′ c′ l w h h′ = absurd w
+first-same P Q (g ∷ []) (y ∷ ys) i b j c i′ b′ j′ c′ l w h h′ = sym (h .0 .min) ∙ w .min ∙ h′ .0 .min
+first-same P Q (g ∷ x ∷ gs) [] i b j c i′ b′ j′ c′ l w h h′ = absurd w
+first-same P Q (g ∷ x ∷ gs) (y ∷ ys) i b j c i′ b′ j′ c′ l w h h′ = sym (h .0 .min) ∙ ap (λ (z : Segment). z .min) (w .0) ∙ h′ .0 .min

@@ -8,7 +8,7 @@ use native.Mathlib.Omega.{arith}
 use lib.Dec.{eqb, ltb}
 use lib.ListN.{length, drop, take}
 use lib.Seq.{take-take}
-use borrow.Author.Tests.{eqb-false, ltb-false, ltb-true, lt-ltb, le-ltb}
+use borrow.Author.Tests.{eqb-false, ltb-false, ne-eqb, le-ltb, ltb-true, lt-ltb}
 use Rattle.lists.proofs.Cases.{pick-either}
 use Rattle.seglog.specs.Log.{View, fitsOf, apartOf, freshIn, frontOf, headOf}
 use Rattle.seglog.specs.declared.Segment.{Segment}
@@ -48,6 +48,20 @@ prune-keeps a area f n rest h k =
       upper = ltb-false (a .end) n q8;
       lower = ltb-false n (a .start) q9;
     }))))))
+
+-- past the tests, the rest
+pub prune-inner : (a : View) (area : List ℕ) (n : ℕ) (rest : Pruning) → fitsOf a area ≡ true → Inner a n → pruneOf a area n rest ≡ rest
+unfolding pruneOf
+prune-inner a area n rest h w =
+    let above = w .above in
+    let some = w .some in
+    simp (
+      h,
+      ne-eqb n 0 (λ z. omega arith),
+      ne-eqb (length (a .segs)) 0 (λ z. omega arith),
+      le-ltb (a .end) n (w .upper),
+      le-ltb n (a .start) (w .lower),
+    )
 
 -- ---- oldest
 

@@ -1,16 +1,21 @@
 -- The index rows of the later images are those of the earlier: what follows e gives none.
 -- Assumes nothing.
+use mathlib.Core.Bool.{Bool, true, false}
 use mathlib.Core.List.{List, [], _++_, _∷_}
 use mathlib.Core.Path.{_≡_, refl, ap, _∙_, sym}
 use Prim.Native.Nat.{ℕ, _-_, _<_, zero, suc, _+_, _≤_}
 use native.Mathlib.Omega.{arith}
+use lib.Dec.{ltb}
 use lib.ListN.{length}
+use borrow.Author.Tests.{ltb-true}
+use Rattle.lists.specs.Choice.{pick}
 use Rattle.record.specs.Record.{recordRoom}
 use Rattle.seglog.specs.declared.Segment.{Segment}
+use Rattle.seglog_prune.specs.Prune.{dropOld}
 use Rattle.recovery_walk.specs.Rows.{rowOf}
 use Rattle.recovery_walk.specs.Step.{liveOf}
 use Rattle.history.proofs.Chain.{Chain, chain-le}
-use Rattle.history.proofs.Deliver.{live-over}
+use Rattle.history.proofs.Deliver.{live-over, live-under}
 use Rattle.history.proofs.Later.{Grows}
 use Rattle.history.proofs.Over.{rowsOver}
 use Rattle.history.proofs.Scans.{rowsChain}
@@ -43,6 +48,33 @@ module _ (s e : ℕ) where
       ap (λ (p : List ℕ). rowOf (liveOf s e a) a slot (pos + 12) (length p) ++ rowsOver f′ s e slot (pos + recordRoom (length p)) (suc a) n) q
       ∙ ap (λ (l : List ℕ). rowOf (liveOf s e a) a slot (pos + 12) (length (f a)) ++ l)
       (rows-agree f f′ slot n (pos + recordRoom (length (f a))) (suc a) (λ i l u. h i (omega arith) (omega arith)))
+
+  rows-under : (f : ℕ → List ℕ) (slot n pos a : ℕ) → a + n ≤ s → rowsOver f s e slot pos a n ≡ []
+  unfolding rowsOver
+  rows-under f slot zero pos a h = refl
+  rows-under f slot (suc n) pos a h =
+      rw (row-dead (liveOf s e a) a slot (pos + 12) (length (f a)) (live-under s e a (omega arith)))
+      (rows-under f slot n (pos + recordRoom (length (f a))) (suc a) (omega arith))
+
+  module _ (area : List ℕ) (f : ℕ → List ℕ) (k n : ℕ) (order : s ≤ e) (P : Segment → Type 0) where
+    -- segments below s give no row
+    pub old-rows : (gs : List Segment) (i b j c : ℕ) → Chain P i b gs j c
+        → rowsChain area f k n s e order (dropOld s gs) ≡ rowsChain area f k n s e order gs
+    unfolding dropOld rowsChain
+    old-rows [] i b j c h = refl
+    old-rows (g ∷ []) i b j c h = refl
+    old-rows (g ∷ x ∷ gs) i b j c h = go (ltb (g .max) s) refl (old-rows (x ∷ gs) (i + 1) (g .max + 1) j c (h .1))
+      where
+        rest : List ℕ
+        rest = rowsChain area f k n s e order (x ∷ gs)
+
+        go : (t : Bool) → ltb (g .max) s ≡ t → rowsChain area f k n s e order (dropOld s (x ∷ gs)) ≡ rest
+            → rowsChain area f k n s e order (pick (ltb (g .max) s) (dropOld s (x ∷ gs)) (g ∷ x ∷ gs))
+            ≡ rowsOver f s e (g .slot) 0 (g .min) (g .max + 1 - g .min) ++ rest
+        go true q ih =
+            let none = rows-under f (g .slot) (g .max + 1 - g .min) 0 (g .min) (omega (arith, ltb-true (g .max) s q, h .0 .min, h .0 .order)) in
+            simp q (ih ∙ ap (λ (l : List ℕ). l ++ rest) (sym none))
+        go false q ih = simp q
 
   module _ (P Q : Segment → Type 0) (area area′ : List ℕ) (f f′ : ℕ → List ℕ) (k n k′ n′ : ℕ) (order : s ≤ e) where
     chain-none : (ys : List Segment) (i b j c : ℕ) → e < b → Chain Q i b ys j c → rowsChain area′ f′ k′ n′ s e order ys ≡ []

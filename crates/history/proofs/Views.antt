@@ -1,16 +1,16 @@
 -- Demand 3 for logs by their listed segments: a log z over area′ that came from a over area by appends alone.
 -- Assumes nothing.
 use mathlib.Core.Bool.{true, false}
-use mathlib.Core.List.{List, [], _∷_, _++_}
-use mathlib.Core.Path.{_≡_, sym, _∙_, ap, refl, subst}
-use Prim.Native.Nat.{ℕ, _*_, _-_, _<_, min, _≤_, _+_, zero, suc}
+use mathlib.Core.List.{List, _++_, _∷_, []}
+use mathlib.Core.Path.{_≡_, subst, sym, _∙_, ap, refl}
+use Prim.Native.Nat.{ℕ, _*_, _-_, _<_, _≤_, _+_, min}
 use native.Mathlib.Omega.{arith}
 use lib.ListN.{length}
-use borrow.Author.Tests.{ne-eqb, le-ltb, lt-ltb, le-leb, eq-eqb}
-use Rattle.seglog.specs.Log.{View, logOf, fitsOf, frontOf, headOf, fittingOf}
+use borrow.Author.Tests.{lt-ltb, le-ltb, le-leb, eq-eqb, ne-eqb}
+use Rattle.seglog.specs.Log.{View, logOf, frontOf, headOf, fittingOf}
 use Rattle.seglog.specs.New.{roomyOf}
 use Rattle.seglog.specs.declared.Segment.{Segment}
-use Rattle.seglog_prune.specs.Prune.{pruneOldestOf, pruned, pruneRecentOf, Pruning, pruneOf, startedAt, dropOld, dropNew}
+use Rattle.seglog_prune.specs.Prune.{pruneOldestOf, pruned, pruneRecentOf, startedAt, dropOld, dropNew}
 use Rattle.recovery_walk.specs.Images.{startOf, images}
 use Rattle.recovery_walk.specs.Rows.{rowsAll, penOf}
 use Rattle.recovery_walk.specs.Scan.{scanOf, judged}
@@ -21,15 +21,15 @@ use Rattle.history.specs.Demand.{idsIn, rowsFor, AnyOrder}
 use Rattle.history.specs.Recorded.{recordsFrom}
 use Rattle.history.proofs.Chain.{Chain, front-snoc, head-snoc}
 use Rattle.history.proofs.CountLaws.{all-counts}
-use Rattle.history.proofs.Deliver.{delivered, items, deliver-chain, live-items}
-use Rattle.history.proofs.Invariant.{Holds, Live}
+use Rattle.history.proofs.Deliver.{delivered, items, deliver-chain, live-items, items-agree}
+use Rattle.history.proofs.Invariant.{Holds, some-live}
 use Rattle.history.proofs.Kept.{Cutting, cut-all}
-use Rattle.history.proofs.Later.{Grows, After}
+use Rattle.history.proofs.Later.{After, first-same, Grows, ended-grows}
 use Rattle.history.proofs.OwnRows.{has-good, rising-rows, length-rows, inside-rows, apart-rows, lowest-rows, next-rows}
-use Rattle.history.proofs.Prunes.{Inner, live-low, oldest-holds, New, closedBy, at-new, endedView, recent-is, ended-holds}
+use Rattle.history.proofs.Prunes.{Inner, live-low, oldest-holds, prune-inner, New, closedBy, at-new, endedView, recent-is, ended-holds}
 use Rattle.history.proofs.Records.{from-agree, from-front, splice-whole}
 use Rattle.history.proofs.Runs.{log-fitting}
-use Rattle.history.proofs.Same.{chain-same}
+use Rattle.history.proofs.Same.{chain-same, old-rows}
 use Rattle.history.proofs.Scans.{Seen, start-seen, Through, through, rowsChain, rows-through}
 use Rattle.history.proofs.Shape.{holds-fits, holds-few, sizes-few}
 use Rattle.history.proofs.Slots.{Stored}
@@ -56,42 +56,11 @@ pub record Brings (a : View) (area : List ℕ) (z : View) (area′ : List ℕ) (
   -- the invariant holds of both logs over the earlier area
   pub older-holds : Holds older area f
   pub log-holds : Holds log area f
+  -- the images of the log that comes back give the same words, over the earlier area
+  pub kept : rowsAll area (a .c) s e (rowsFor (a .segs)) penOf ≡ rowsAll area (log .c) s e (rowsFor (log .segs)) penOf
   -- the live range
   pub start-is : log .start ≡ s
   pub end-is : log .end ≡ e
-
--- ---- small laws
-
-some-live : (gs : List Segment) (s e j : ℕ) → 0 < e → Live s e j gs → 0 < length gs
-some-live [] s e j l h = absurd (omega (arith, h .1))
-some-live (g ∷ gs) s e j l h = omega arith
-
-first-same : (P Q : Segment → Type 0) (gs ys : List Segment) (i b j c i′ b′ j′ c′ : ℕ) → 0 < length gs → Grows gs ys → Chain P i b gs j c
-    → Chain Q i′ b′ ys j′ c′ → b ≡ b′
-first-same P Q [] ys i b j c i′ b′ j′ c′ l w h h′ = absurd (omega arith)
-first-same P Q (g ∷ []) [] i b j c i′ b′ j′ c′ l w h h′ = absurd w
-first-same P Q (g ∷ []) (y ∷ ys) i b j c i′ b′ j′ c′ l w h h′ = sym (h .0 .min) ∙ w .min ∙ h′ .0 .min
-first-same P Q (g ∷ x ∷ gs) [] i b j c i′ b′ j′ c′ l w h h′ = absurd w
-first-same P Q (g ∷ x ∷ gs) (y ∷ ys) i b j c i′ b′ j′ c′ l w h h′ = sym (h .0 .min) ∙ ap (λ (z : Segment). z .min) (w .0) ∙ h′ .0 .min
-
-items-agree : (f g : ℕ → List ℕ) (n a : ℕ) → ((i : ℕ) → a ≤ i → i < a + n → f i ≡ g i) → items f a n ≡ items g a n
-unfolding items
-items-agree f g zero a h = refl
-items-agree f g (suc n) a h =
-    rw (h a (omega arith) (omega arith), items-agree f g n (suc a) (λ i l u. h i (omega arith) (omega arith)))
-
-prune-inner : (a : View) (area : List ℕ) (n : ℕ) (rest : Pruning) → fitsOf a area ≡ true → Inner a n → pruneOf a area n rest ≡ rest
-unfolding pruneOf
-prune-inner a area n rest h w =
-    let above = w .above in
-    let some = w .some in
-    simp (
-      h,
-      ne-eqb n 0 (λ z. omega arith),
-      ne-eqb (length (a .segs)) 0 (λ z. omega arith),
-      le-ltb (a .end) n (w .upper),
-      le-ltb n (a .start) (w .lower),
-    )
 
 -- ---- the theorem
 
@@ -215,6 +184,28 @@ module _ (a : View) (area : List ℕ) (z : View) (area′ : List ℕ) (f f′ : 
       ∙ sym (rows-through area f (a .k) (a .c) s e order (a .segs) (h .i) (h .b) (h .j) (a .end + 1) startOf [] (h .low) (h .chain)
       (start-seen s e (h .b) order (h .low) low))
 
+  -- and those of the log that comes back
+  rows-kept : rowsAll area (a .c) s e (rowsFor (a .segs)) penOf ≡ rowsAll area (log .c) s e (rowsFor (log .segs)) penOf
+  unfolding cut-found
+  rows-kept =
+      let lh = log-holds in
+      let Gl : Segment → Type 0 = Stored area f (log .k) (log .c) in
+      let some-kept = some-live (log .segs) s e (lh .j) (omega arith) (lh .live) in
+      let lower = live-low Gl (log .segs) (lh .i) (lh .b) s e (lh .j) (e + 1) some-kept (lh .chain) (lh .live) in
+      let grown : Grows (log .segs) (dropOld s (a .segs)) =
+      subst (λ (gs : List Segment). Grows gs (dropOld s (a .segs))) (ap (λ (x : View). x .segs) ended-is)
+      (subst (λ (ys : List Segment). Grows (cut-found .hs ++ (closedBy f (cut-found .g) e ∷ [])) ys) (sym (cut-found .is))
+      (ended-grows f (cut-found .hs) (cut-found .rest) (cut-found .g) e (cut-found .high))) in
+      rows-through area f (a .k) (a .c) s e order (a .segs) (h .i) (h .b) (h .j) (a .end + 1) startOf [] (h .low) (h .chain)
+      (start-seen s e (h .b) order (h .low) low)
+      ∙ sym (old-rows s e area f (a .k) (a .c) order Gt (a .segs) (h .i) (h .b) (h .j) (a .end + 1) (h .chain))
+      ∙ chain-same s e Gl Gt area area f f (log .k) (log .c) (a .k) (a .c) order (log .segs) (dropOld s (a .segs)) (lh .i) (lh .b) (lh .j) (e + 1)
+      (old-holds .i) (old-holds .b) (old-holds .j) (a .end + 1)
+      (first-same Gl Gt (log .segs) (dropOld s (a .segs)) (lh .i) (lh .b) (lh .j) (e + 1) (old-holds .i) (old-holds .b) (old-holds .j) (a .end + 1)
+      some-kept grown (lh .chain) (old-holds .chain)) (omega arith) (lh .chain) (old-holds .chain) grown (λ i l. refl)
+      ∙ sym (rows-through area f (log .k) (log .c) s e order (log .segs) (lh .i) (lh .b) (lh .j) (e + 1) startOf [] (lh .low) (lh .chain)
+      (start-seen s e (lh .b) order (lh .low) lower))
+
   counted : walk .d .live ≡ idsIn s e
   counted = walk .seen .live ∙ omega (arith, w .end)
 
@@ -337,6 +328,7 @@ module _ (a : View) (area : List ℕ) (z : View) (area′ : List ℕ) (f f′ : 
           same = rows-same;
           older-holds = old-holds;
           log-holds = log-holds;
+          kept = rows-kept;
           start-is = refl;
           end-is = refl;
         }
