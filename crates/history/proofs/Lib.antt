@@ -25,3 +25,4 @@ pub mod IndexRows
 pub mod Theorem
 pub mod Recorded
 pub mod Refused
+pub mod Whole
