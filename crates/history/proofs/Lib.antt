@@ -26,3 +26,5 @@ pub mod Theorem
 pub mod Recorded
 pub mod Refused
 pub mod Whole
+pub mod Unchanged
+pub mod Twice

@@ -70,6 +70,7 @@ module _ (t : Held) (f : ℕ → List ℕ) (c : Came Any t f) (further : List (L
       appends-after (c .view) f further t f
       (record { view = c .view; packed = c .packed; holds = c .holds; also = after-refl (c .view) f })
 
+  -- what recovery brings, by views
   pub brings-held : (s e : ℕ) (rows : List ImageRow) (room : ℕ) → 0 < s → s ≤ e → t .log .start ≤ s → e ≤ t .log .end
       → AnyOrder rows (rowsFor (listed (u .log))) → 4 * idsIn s e ≤ room
       → Brings (c .view) (t .area) (later-came .view) (u .area) f rows s e room
@@ -80,6 +81,14 @@ module _ (t : Held) (f : ℕ → List ℕ) (c : Came Any t f) (further : List (L
       (subst (λ (x : Log). x .start ≤ s) (c .packed) from) (subst (λ (x : Log). e ≤ x .end) (c .packed) to) rows room
       (subst (λ (gs : List Segment). AnyOrder rows (rowsFor gs)) own any) enough
 
+  -- recovery's outcome
+  pub accepts-held : (s e : ℕ) (rows : List ImageRow) (index : List ℕ) (d : Brings (c .view) (t .area) (later-came .view) (u .area) f rows s e (length index))
+      → recovering u rows s e index ≡ recovered (d .log) (u .area) (d .words)
+  accepts-held s e rows index d =
+      on-view (λ (y : Held). recovering y rows s e index ≡ recovered (d .log) (y .area) (d .words)) u (told f t (appends further)) later-came
+      (d .accepts)
+
+  -- what recovery delivers
   pub delivers-held : (s e : ℕ) (rows : List ImageRow) (index : List ℕ) → 0 < s → s ≤ e → t .log .start ≤ s → e ≤ t .log .end
       → AnyOrder rows (rowsFor (listed (u .log))) → 4 * idsIn s e ≤ length index
       → Delivers t u f s e index (recovering u rows s e index)
