@@ -59,40 +59,72 @@ module _ (t : Held) (f : ℕ → List ℕ) (c : Came Any t f) (further : List (L
       λ i. recoveryOf (u .log .k) (u .log .c) (u .log .m) (area i) rows s e (long i) in
       same-twice u index (d .log) (d .words) r _ q (same ∙ is)
 
-  -- the log that came back, as one that came from calls
+  -- ---- the log that came back
+
+  abbrev z : View
+  z = later-came t f c further .view
+
+  abbrev g : ℕ → List ℕ
+  g = told f t (appends further)
+
+  from-later : z .start ≤ s
+  from-later =
+      let l = later-came t f c further in
+      let first : c .view .start ≤ s = subst (λ (x : Log). x .start ≤ s) (c .packed) from in
+      let last : e ≤ c .view .end = subst (λ (x : Log). e ≤ x .end) (c .packed) to in
+      let some = some-live (c .view .segs) (c .view .start) (c .view .end) (c .holds .j) (omega arith) (c .holds .live) in
+      omega (arith, l .also .start some)
+
+  to-later : e ≤ z .end
+  to-later =
+      let last : e ≤ c .view .end = subst (λ (x : Log). e ≤ x .end) (c .packed) to in omega (arith, later-came t f c further .also .end)
+
+  own-later : AnyOrder rows (rowsFor (z .segs))
+  own-later =
+      subst (λ (gs : List Segment). AnyOrder rows (rowsFor gs)) (ap (λ (x : Log). listed x) (later-came t f c further .packed) ∙ listed-log z) any
+
+  -- the first time, against what is held later
+  once : Brings z (u .area) z (u .area) g rows s e (length index)
+  once = brings-self z (u .area) g (later-came t f c further .holds) s e above order from-later to-later rows (length index) own-later enough
+
+  once-is : recovering u rows s e index ≡ recovered (once .log) (u .area) (once .words)
+  once-is =
+      on-view (λ (y : Held). recovering y rows s e index ≡ recovered (once .log) (y .area) (once .words)) u g (later-came t f c further)
+      (once .accepts)
+
+  module _ (rows′ : List ImageRow) (any′ : AnyOrder rows′ (rowsFor (once .log .segs))) (room : ℕ) (enough′ : 4 * idsIn s e ≤ room) where
+    -- the second time, from the log that came back
+    second : Brings (once .log) (u .area) (once .log) (u .area) g rows′ s e room
+    second =
+        brings-self (once .log) (u .area) g (once .log-holds) s e above order (omega (arith, once .start-is)) (omega (arith, once .end-is)) rows′
+        room any′ enough′
+
+    second-log : second .log ≡ once .log
+    second-log =
+        whole-log (once .log) (u .area) g (once .log-holds) (omega (arith, once .end-is)) (once .log) (u .area) rows′ s e room (once .start-is)
+        (once .end-is) second
+
+    second-words : second .words ≡ once .words
+    second-words = second .same ∙ sym (once .kept) ∙ sym (once .same)
+
+    second-is : recoveryOf (once .log .k) (once .log .c) (once .log .m) (u .area) rows′ s e room ≡ recovered (once .log) (u .area) (once .words)
+    second-is = second .accepts ∙ (λ i. recovered (second-log i) (u .area) (second-words i))
+
   recovered-twice : (r : Recovery) → r ≡ recovering u rows s e index → (rows′ : List ImageRow)
       → AnyOrder rows′ (rowsFor (listed (afterRecovery u r .log)))
       → SameTwice u index r (recovering (afterRecovery u r) rows′ s e (recoveryIndex index r))
   recovered-twice r p rows′ any′ =
-      let l = later-came t f c further in
-      let z : View = l .view in
-      let g : ℕ → List ℕ = told f t (appends further) in
-      let from′ : c .view .start ≤ s = subst (λ (x : Log). x .start ≤ s) (c .packed) from in
-      let to′ : e ≤ c .view .end = subst (λ (x : Log). e ≤ x .end) (c .packed) to in
-      let some = some-live (c .view .segs) (c .view .start) (c .view .end) (c .holds .j) (omega arith) (c .holds .live) in
-      let own : AnyOrder rows (rowsFor (z .segs)) =
-      subst (λ (gs : List Segment). AnyOrder rows (rowsFor gs)) (ap (λ (x : Log). listed x) (l .packed) ∙ listed-log z) any in
-      let d₂ =
-      brings-self z (u .area) g (l .holds) s e above order (omega (arith, l .also .start some)) (omega (arith, l .also .end)) rows (length index)
-      own enough in
-      let L : View = d₂ .log in
-      let q : r ≡ recovered L (u .area) (d₂ .words) =
-      p ∙ on-view (λ (y : Held). recovering y rows s e index ≡ recovered L (y .area) (d₂ .words)) u g l (d₂ .accepts) in
+      let q : r ≡ recovered (once .log) (u .area) (once .words) = p ∙ once-is in
       let long : length (recoveryIndex index r) ≡ length index =
-      ap (λ (x : Recovery). length (recoveryIndex index x)) q ∙ words-fit L (u .area) (d₂ .words) index (4 * idsIn s e) (d₂ .count) enough in
-      let own′ : AnyOrder rows′ (rowsFor (L .segs)) =
-      subst (λ (gs : List Segment). AnyOrder rows′ (rowsFor gs)) (ap (λ (x : Recovery). listed (recoveryAnswer x .log)) q ∙ listed-log L) any′ in
-      let d₃ =
-      brings-self L (u .area) g (d₂ .log-holds) s e above order (omega (arith, d₂ .start-is)) (omega (arith, d₂ .end-is)) rows′
-      (length (recoveryIndex index r)) own′ (omega arith) in
-      let log : d₃ .log ≡ L =
-      whole-log L (u .area) g (d₂ .log-holds) (omega (arith, d₂ .end-is)) L (u .area) rows′ s e (length (recoveryIndex index r)) (d₂ .start-is)
-      (d₂ .end-is) d₃ in
-      let words : d₃ .words ≡ d₂ .words = d₃ .same ∙ sym (d₂ .kept) ∙ sym (d₂ .same) in
-      let held : afterRecovery u r ≡ heldOf L (u .area) = ap (afterRecovery u) q in
-      same-twice u index L (d₂ .words) r _ q
-      (ap (λ (x : Held). recovering x rows′ s e (recoveryIndex index r)) held ∙ d₃ .accepts
-      ∙ (λ i. recovered (log i) (u .area) (words i)))
+      ap (λ (x : Recovery). length (recoveryIndex index x)) q
+      ∙ words-fit (once .log) (u .area) (once .words) index (4 * idsIn s e) (once .count) enough in
+      let own : AnyOrder rows′ (rowsFor (once .log .segs)) =
+      subst (λ (gs : List Segment). AnyOrder rows′ (rowsFor gs))
+      (ap (λ (x : Recovery). listed (recoveryAnswer x .log)) q ∙ listed-log (once .log)) any′ in
+      let held : afterRecovery u r ≡ heldOf (once .log) (u .area) = ap (afterRecovery u) q in
+      same-twice u index (once .log) (once .words) r _ q
+      (ap (λ (x : Held). recovering x rows′ s e (recoveryIndex index r)) held
+      ∙ second-is rows′ own (length (recoveryIndex index r)) (omega arith))
 
 -- recovering twice gives the same
 pub recovering-twice : RecoveringTwice

@@ -23,12 +23,12 @@ pub record SameAsEarlier (t u : Held) (s e : ℕ) (index : List ℕ) (r₀ r : R
   pub index-same : recoveryIndex index r ≡ recoveryIndex index r₀
   -- the same answer to each row question
   pub question-same : (i : ℕ) → i < idsIn s e
-      → questionAt (recoveryAnswer r .log) (u .area) (recoveryIndex index r) i
-      ≡ questionAt (recoveryAnswer r₀ .log) (t .area) (recoveryIndex index r₀) i
+      → questionAt (recoveryAnswer r .log) (recoveryArea (u .area) r) (recoveryIndex index r) i
+      ≡ questionAt (recoveryAnswer r₀ .log) (recoveryArea (t .area) r₀) (recoveryIndex index r₀) i
   -- the same payloads
   pub payload-same : (i : ℕ) → i < idsIn s e
-      → payloadAt (recoveryAnswer r .log) (u .area) (recoveryIndex index r) i
-      ≡ payloadAt (recoveryAnswer r₀ .log) (t .area) (recoveryIndex index r₀) i
+      → payloadAt (recoveryAnswer r .log) (recoveryArea (u .area) r) (recoveryIndex index r) i
+      ≡ payloadAt (recoveryAnswer r₀ .log) (recoveryArea (t .area) r₀) (recoveryIndex index r₀) i
 
 -- "the later data changes nothing": recovery after further appends is what it would have been before them
 abbrev pub LaterChangesNothing : Type 0

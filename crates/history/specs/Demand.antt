@@ -87,9 +87,10 @@ pub record Delivers (t u : Held) (f : ℕ → List ℕ) (s e : ℕ) (index : Lis
   -- row i has the id s + i
   pub row-id : (i : ℕ) → i < idsIn s e → rowWord (recoveryIndex index r) i 0 ≡ s + i
   -- the row question for it is good
-  pub row-good : (i : ℕ) → i < idsIn s e → questionAt (recoveryAnswer r .log) (u .area) (recoveryIndex index r) i ≡ Good
+  pub row-good : (i : ℕ) → i < idsIn s e → questionAt (recoveryAnswer r .log) (recoveryArea (u .area) r) (recoveryIndex index r) i ≡ Good
   -- its payload is the one last appended under s + i
-  pub row-payload : (i : ℕ) → i < idsIn s e → payloadAt (recoveryAnswer r .log) (u .area) (recoveryIndex index r) i ≡ f (s + i)
+  pub row-payload : (i : ℕ) → i < idsIn s e
+      → payloadAt (recoveryAnswer r .log) (recoveryArea (u .area) r) (recoveryIndex index r) i ≡ f (s + i)
   -- the index keeps its length, and its later words stay
   pub index-length : length (recoveryIndex index r) ≡ length index
   pub later-words : drop (4 * idsIn s e) (recoveryIndex index r) ≡ drop (4 * idsIn s e) index
@@ -107,7 +108,8 @@ abbrev pub later : (k c m : ℕ) → List ℕ → List Call → List (List ℕ) 
 later k c m area calls further = run (earlier k c m area calls) (appends further)
 
 -- what the caller must do, all of it under the caller's hand
-pub record Asked (k c m : ℕ) (area : List ℕ) (calls : List Call) (further : List (List ℕ)) (s e : ℕ) (rows : List ImageRow) (index : List ℕ) : Type 0 where
+pub record Asked (k c m : ℕ) (area : List ℕ) (calls : List Call) (further : List (List ℕ)) (s e : ℕ)
+    (rows : List ImageRow) (index : List ℕ) : Type 0 where
   -- a new log was accepted
   pub new : newOf k c m (length area) .refusal ≡ 0
   -- s and e lie inside the live range of the earlier moment
