@@ -13,12 +13,15 @@ use Rattle.lists.proofs.Splice.{splice-length}
 use Rattle.lists.specs.Choice.{pick, first}
 use Rattle.record.proofs.Record.{record-length}
 use Rattle.record.specs.Record.{maxPayload, recordRoom, recordBytes}
+use Rattle.seglog.proofs.Bools.{clash}
+use Rattle.seglog.proofs.Slots.{snoc-apart, apart-snoc}
+use Rattle.seglog.proofs.View.{ends-with}
 use Rattle.seglog.specs.Log.{View, freshIn, apartOf, headOf, frontOf, fitsOf}
 use Rattle.seglog.specs.declared.Segment.{Segment}
 use Rattle.seglog_append.specs.Append.{Appending, refused, appended, startAfter, grownOf, nextId, freeFrom, opensOf, lowestFree, freshOf, beforeOf, targetOf, withRecord, recordInto, appendOf}
 use Rattle.history.specs.History.{noted}
 use Rattle.history.specs.Recorded.{recordsFrom}
-use Rattle.history.proofs.Chain.{Chain, chain-ends, ends-with, snoc-apart, chain-join, chain-keep, apart-snoc, clash}
+use Rattle.history.proofs.Chain.{Chain, chain-ends, chain-join, chain-keep}
 use Rattle.history.proofs.Invariant.{Holds, Live}
 use Rattle.history.proofs.Shape.{holds-fits}
 use Rattle.history.proofs.Slots.{Stored, Upto, keep-other, keep-grown}

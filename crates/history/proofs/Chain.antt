@@ -1,29 +1,15 @@
 -- Segments in a row, each going on where the one before it ends; distinct slots; the last segment. `P` says what holds of each.
 -- Assumes nothing.
-use mathlib.Core.Bool.{Bool, false, true, _&&_}
+use mathlib.Core.Bool.{true}
 use mathlib.Core.List.{List, [], _∷_, _++_}
-use mathlib.Core.Path.{_≡_, refl, sym, ap, _∙_, subst}
-use Prim.Native.Nat.{ℕ, _-_, _≤_, _+_, _<_, suc}
+use mathlib.Core.Path.{_≡_, refl, ap, subst, sym, _∙_}
+use Prim.Native.Nat.{ℕ, _≤_, _+_, _<_}
 use native.Mathlib.Omega.{arith}
-use lib.Dec.{eqb}
-use lib.ListN.{length, take, length-append, getD}
-use lib.Seq.{take-all, take-suc, take-at, getD-at}
-use borrow.Author.Tests.{eqb-false, ne-eqb}
-use Rattle.lists.specs.Choice.{pick}
-use Rattle.seglog.specs.Log.{freshIn, apartOf, frontOf, headOf, noSegment}
+use lib.ListN.{length}
+use Rattle.seglog.proofs.Slots.{fresh-cons}
+use Rattle.seglog.proofs.View.{ends-with}
+use Rattle.seglog.specs.Log.{freshIn, frontOf, headOf}
 use Rattle.seglog.specs.declared.Segment.{Segment}
-
-pub clash : {P : Type 0} → _≡_ {A = Bool} false true → P
-clash e = absurd (let z : _≡_ {A = ℕ} 0 1 = cc in omega arith)
-
-pub and-both : (a b : Bool) → a && b ≡ true → (a ≡ true) × (b ≡ true)
-and-both true true h = (refl, refl)
-and-both true false h = clash h
-and-both false true h = clash h
-and-both false false h = clash h
-
-pub both-and : (a b : Bool) → a ≡ true → b ≡ true → a && b ≡ true
-both-and a b h g = rw (h, g)
 
 pub record Link (P : Segment → Type 0) (i a : ℕ) (g : Segment) : Type 0 where
   pub id : g .id ≡ i
@@ -56,59 +42,6 @@ chain-split (x ∷ gs) hs i a k c h =
     let t = chain-split gs hs (i + 1) (x .max + 1) k c (h .1) in
     record { j = t .j; b = t .b; left = (h .0, t .left); right = t .right }
 
--- ---- slots
-
-pub record Fresh (slot : ℕ) (g : Segment) (gs : List Segment) : Type 0 where
-  pub here : g .slot ≡ slot → ⊥
-  pub rest : freshIn slot gs ≡ true
-
-pub fresh-cons : (slot : ℕ) (g : Segment) (gs : List Segment) → freshIn slot (g ∷ gs) ≡ true → Fresh slot g gs
-unfolding freshIn
-fresh-cons slot g gs h = go (eqb slot (g .slot)) refl h
-  where
-    go : (b : Bool) → eqb slot (g .slot) ≡ b → pick b false (freshIn slot gs) ≡ true → Fresh slot g gs
-    go true e q = clash q
-    go false e q = record { here = λ z. eqb-false slot (g .slot) e (sym z); rest = q }
-
-pub cons-fresh : (slot : ℕ) (g : Segment) (gs : List Segment) → Fresh slot g gs → freshIn slot (g ∷ gs) ≡ true
-unfolding freshIn
-cons-fresh slot g gs h = simp (ne-eqb slot (g .slot) (λ z. h .here (sym z))) (h .rest)
-
-pub fresh-snoc : (slot : ℕ) (gs : List Segment) (g : Segment) → freshIn slot gs ≡ true → (g .slot ≡ slot → ⊥) → freshIn slot (gs ++ (g ∷ [])) ≡ true
-unfolding freshIn
-fresh-snoc slot [] g h n = cons-fresh slot g [] (record { here = n; rest = refl })
-fresh-snoc slot (x ∷ gs) g h n =
-    let t = fresh-cons slot x gs h in cons-fresh slot x (gs ++ (g ∷ [])) (record { here = t .here; rest = fresh-snoc slot gs g (t .rest) n })
-
-pub record Last (slot : ℕ) (gs : List Segment) (g : Segment) : Type 0 where
-  pub rest : freshIn slot gs ≡ true
-  pub here : g .slot ≡ slot → ⊥
-
-pub snoc-fresh : (slot : ℕ) (gs : List Segment) (g : Segment) → freshIn slot (gs ++ (g ∷ [])) ≡ true → Last slot gs g
-unfolding freshIn
-snoc-fresh slot [] g h = record { rest = refl; here = fresh-cons slot g [] h .here }
-snoc-fresh slot (x ∷ gs) g h =
-    let t = fresh-cons slot x (gs ++ (g ∷ [])) h in
-    let u = snoc-fresh slot gs g (t .rest) in
-    record { rest = cons-fresh slot x gs (record { here = t .here; rest = u .rest }); here = u .here }
-
-pub apart-snoc : (gs : List Segment) (g : Segment) → apartOf gs ≡ true → freshIn (g .slot) gs ≡ true → apartOf (gs ++ (g ∷ [])) ≡ true
-unfolding apartOf freshIn
-apart-snoc [] g h n = refl
-apart-snoc (x ∷ gs) g h n =
-    let t = and-both (freshIn (x .slot) gs) (apartOf gs) h in
-    let u = fresh-cons (g .slot) x gs n in
-    both-and (freshIn (x .slot) (gs ++ (g ∷ []))) (apartOf (gs ++ (g ∷ []))) (fresh-snoc (x .slot) gs g (t .0) (λ z. u .here (sym z))) (apart-snoc gs g (t .1) (u .rest))
-
-pub snoc-apart : (gs : List Segment) (g : Segment) → apartOf (gs ++ (g ∷ [])) ≡ true → (apartOf gs ≡ true) × (freshIn (g .slot) gs ≡ true)
-unfolding apartOf freshIn
-snoc-apart [] g h = (refl, refl)
-snoc-apart (x ∷ gs) g h =
-    let t = and-both (freshIn (x .slot) (gs ++ (g ∷ []))) (apartOf (gs ++ (g ∷ []))) h in
-    let u = snoc-apart gs g (t .1) in
-    let v = snoc-fresh (x .slot) gs g (t .0) in
-    (both-and (freshIn (x .slot) gs) (apartOf gs) (v .rest) (u .0), cons-fresh (g .slot) x gs (record { here = λ z. v .here (sym z); rest = u .1 }))
-
 -- ---- what is kept of segments that do not have a slot
 
 pub chain-keep : {P Q : Segment → Type 0} (slot : ℕ) (gs : List Segment) (i a j b : ℕ) → ((g : Segment) → (g .slot ≡ slot → ⊥) → g .max < b → P g → Q g)
@@ -126,21 +59,6 @@ chain-map {P} (g ∷ gs) i a j b t h =
     (record { id = l .id; min = l .min; order = l .order; good = t g (omega (arith, chain-le P gs (i + 1) (g .max + 1) j b (h .1))) (l .good) }, chain-map gs (i + 1) (g .max + 1) j b t (h .1))
 
 -- ---- the last segment
-
-pub ends-with : (gs : List Segment) → 0 < length gs → gs ≡ frontOf gs ++ (headOf gs ∷ [])
-ends-with gs h =
-    let back : suc (length gs - 1) ≡ length gs = omega arith in
-    sym (take-all (length gs) gs (omega arith)) ∙ ap (λ (n : ℕ). take n gs) (sym back) ∙ take-suc gs (length gs - 1) noSegment (omega arith)
-
-pub front-snoc : (gs : List Segment) (g : Segment) → frontOf (gs ++ (g ∷ [])) ≡ gs
-front-snoc gs g =
-    let n : length (gs ++ (g ∷ [])) - 1 ≡ length gs = rw length-append (omega arith) in
-    ap (λ (k : ℕ). take k (gs ++ (g ∷ []))) n ∙ take-at gs (g ∷ []) (length gs) refl
-
-pub head-snoc : (gs : List Segment) (g : Segment) → headOf (gs ++ (g ∷ [])) ≡ g
-head-snoc gs g =
-    let n : length (gs ++ (g ∷ [])) - 1 ≡ length gs = rw length-append (omega arith) in
-    ap (λ (k : ℕ). getD (gs ++ (g ∷ [])) k noSegment) n ∙ getD-at gs g [] noSegment (length gs) refl
 
 -- a row with a last segment
 pub record Ends (P : Segment → Type 0) (i a : ℕ) (hs : List Segment) (g : Segment) (j b : ℕ) : Type 0 where

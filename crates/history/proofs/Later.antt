@@ -11,12 +11,13 @@ use borrow.Author.Tests.{ne-eqb}
 use Rattle.lists.proofs.Cases.{pick-either}
 use Rattle.lists.specs.Choice.{pick}
 use Rattle.record.specs.Record.{maxPayload, recordRoom}
+use Rattle.seglog.proofs.View.{ends-with}
 use Rattle.seglog.specs.Log.{View, fitsOf, frontOf, headOf}
 use Rattle.seglog.specs.declared.Segment.{Segment}
 use Rattle.seglog_append.specs.Append.{appendOf, refused, opensOf, nextId, lowestFree, targetOf, Appending, grownOf, freshOf}
 use Rattle.history.specs.History.{append, appends, Held, run, told, step, heardCall}
 use Rattle.history.proofs.Appends.{opens-some}
-use Rattle.history.proofs.Chain.{chain-ends, ends-with, Chain}
+use Rattle.history.proofs.Chain.{chain-ends, Chain}
 use Rattle.history.proofs.Invariant.{Holds}
 use Rattle.history.proofs.Prunes.{closedBy}
 use Rattle.history.proofs.Runs.{AppendAlso, Came, on-view, came-append}

@@ -6,7 +6,6 @@ pub mod Over
 pub mod Chain
 pub mod Slots
 pub mod Invariant
-pub mod Pigeons
 pub mod Sorts
 pub mod Shape
 pub mod Appends

@@ -10,11 +10,14 @@ use lib.ListN.{length, drop, take}
 use lib.Seq.{take-take}
 use borrow.Author.Tests.{eqb-false, ltb-false, ne-eqb, le-ltb, ltb-true, lt-ltb}
 use Rattle.lists.proofs.Cases.{pick-either}
+use Rattle.seglog.proofs.Bools.{clash, and-both, both-and}
+use Rattle.seglog.proofs.Slots.{fresh-cons, cons-fresh, snoc-apart, apart-snoc}
+use Rattle.seglog.proofs.View.{front-snoc, head-snoc}
 use Rattle.seglog.specs.Log.{View, fitsOf, apartOf, freshIn, frontOf, headOf}
 use Rattle.seglog.specs.declared.Segment.{Segment}
 use Rattle.seglog_prune.specs.Prune.{Pruning, refused, pruned, pruneOf, dropOld, startedAt, pruneOldestOf, dropNew, keepAt, cutOff, findCut, imageIn, cutAt, pruneRecentOf}
 use Rattle.history.specs.Recorded.{recordsFrom}
-use Rattle.history.proofs.Chain.{clash, Chain, and-both, fresh-cons, cons-fresh, both-and, snoc-apart, chain-join, apart-snoc, front-snoc, head-snoc}
+use Rattle.history.proofs.Chain.{Chain, chain-join}
 use Rattle.history.proofs.Cuts.{cut-records}
 use Rattle.history.proofs.Invariant.{Holds, empty-holds, Live}
 use Rattle.history.proofs.Records.{from-front, splice-whole}

@@ -9,6 +9,8 @@ use lib.Dec.{eqb}
 use lib.ListN.{length}
 use borrow.Author.Tests.{eq-eqb, ne-eqb, eqb-true}
 use Rattle.lists.specs.Choice.{pick}
+use Rattle.seglog.proofs.Bools.{and-both, both-and}
+use Rattle.seglog.proofs.View.{plain-log, view-log}
 use Rattle.seglog.specs.Log.{View, logOf, plainOf, fittingOf, shapedOf, viewOf, sizesOf, emptyOf, zeroLog}
 use Rattle.seglog.specs.New.{newOf, accepted, roomyOf, refusedLog}
 use Rattle.seglog.specs.declared.Log.{Log}
@@ -17,9 +19,7 @@ use Rattle.seglog_prune.specs.Prune.{Pruning, pruned, oldestLog, pruneOldestOf,
 use Rattle.recovery_walk.specs.Images.{after}
 use Rattle.history.specs.History.{Held, append, noted, run, oldest, recent, afterAppend, heard, afterPrune, step, heardCall, Call, told, begun, nothing, lastUnder}
 use Rattle.history.proofs.Appends.{AppendKeeps, append-keeps}
-use Rattle.history.proofs.Chain.{and-both, both-and}
 use Rattle.history.proofs.Invariant.{Holds, empty-holds}
-use Rattle.history.proofs.LogLaws.{plain-log, view-log}
 use Rattle.history.proofs.Prunes.{PruneKeeps, oldest-keeps, recent-keeps}
 use Rattle.history.proofs.Shape.{holds-few, sizes-few, fits-both, holds-fits}
 use Rattle.seglog_append.specs.Append as A

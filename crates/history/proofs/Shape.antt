@@ -7,15 +7,17 @@ use Prim.Native.Nat.{ℕ, _-_, _≤_, _+_, suc, _%_, _*_}
 use native.Mathlib.Omega.{arith}
 use lib.Dec.{eqb, leb}
 use lib.ListN.{length, length-append}
-use borrow.Author.Tests.{eq-eqb, le-leb, lt-ltb, leb-true}
+use borrow.Author.Tests.{eq-eqb, le-leb, lt-ltb}
 use Rattle.record.proofs.Record.{record-length, room-ge}
 use Rattle.record.specs.Record.{recordBytes}
+use Rattle.seglog.proofs.Bools.{both-and}
+use Rattle.seglog.proofs.Fit.{sizes-are}
+use Rattle.seglog.proofs.Slots.{Below, pigeons}
 use Rattle.seglog.specs.Log.{nextOf, chainOf, segOf, endsOf, headOf, View, fitsOf, shapedOf, sizesOf}
 use Rattle.seglog.specs.declared.Segment.{Segment}
 use Rattle.history.specs.Recorded.{recordsFrom}
-use Rattle.history.proofs.Chain.{Chain, both-and, chain-ends, and-both}
+use Rattle.history.proofs.Chain.{Chain, chain-ends}
 use Rattle.history.proofs.Invariant.{Live, Holds}
-use Rattle.history.proofs.Pigeons.{Below, pigeons}
 use Rattle.history.proofs.Records.{from-pages}
 use Rattle.history.proofs.Slots.{Stored}
 
@@ -86,13 +88,7 @@ holds-fits a area f h =
 
 -- K is 64 at most
 pub sizes-few : (k c m : ℕ) → sizesOf k c m ≡ true → k ≤ 64
-unfolding sizesOf
-sizes-few k c m h =
-    let a = and-both (leb 1 k && leb k 64 && eqb (c % 4096) 0 && leb 4096 c && leb c 2147483648) (leb m c) h in
-    let b = and-both (leb 1 k && leb k 64 && eqb (c % 4096) 0 && leb 4096 c) (leb c 2147483648) (a .0) in
-    let d = and-both (leb 1 k && leb k 64 && eqb (c % 4096) 0) (leb 4096 c) (b .0) in
-    let e = and-both (leb 1 k && leb k 64) (eqb (c % 4096) 0) (d .0) in
-    leb-true k 64 (and-both (leb 1 k) (leb k 64) (e .0) .1)
+sizes-few k c m h = sizes-are k c m h .few-slots
 
 -- what fits is well shaped, over K x C bytes
 pub fits-both : (a : View) (area : List ℕ) → fitsOf a area ≡ true → shapedOf a && eqb (length area) (a .k * a .c) ≡ true

@@ -9,10 +9,10 @@ use lib.Dec.{leb, ltb, eqb}
 use lib.ListN.{length, length-append}
 use borrow.Author.Tests.{le-leb, lt-leb, eqb-false, ne-eqb}
 use Rattle.lists.specs.Choice.{pick}
+use Rattle.seglog.proofs.Bools.{and-both, both-and, clash}
 use Rattle.recovery_walk.specs.declared.ImageRow.{ImageRow}
 use Rattle.recovery.specs.ImageRows.{insertRow, sortRows, rowsInside, freshRow, rowsApart}
 use Rattle.history.specs.Demand.{AnyOrder}
-use Rattle.history.proofs.Chain.{and-both, both-and, clash}
 
 -- ids rise, from lo on
 abbrev pub Rising : ℕ → List ImageRow → Type 0

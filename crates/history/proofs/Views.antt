@@ -7,6 +7,7 @@ use Prim.Native.Nat.{ℕ, _*_, _-_, _<_, _≤_, _+_, min}
 use native.Mathlib.Omega.{arith}
 use lib.ListN.{length}
 use borrow.Author.Tests.{lt-ltb, le-ltb, le-leb, eq-eqb, ne-eqb}
+use Rattle.seglog.proofs.View.{front-snoc, head-snoc}
 use Rattle.seglog.specs.Log.{View, logOf, frontOf, headOf, fittingOf}
 use Rattle.seglog.specs.New.{roomyOf}
 use Rattle.seglog.specs.declared.Segment.{Segment}
@@ -19,7 +20,7 @@ use Rattle.recovery.specs.ImageRows.{sortRows, rowsFit, lowestZero, oneApart}
 use Rattle.recovery.specs.Recovery.{recoveryOf, recovered, keptOf, closedAt, outcomeOf, oneZero}
 use Rattle.history.specs.Demand.{idsIn, rowsFor, AnyOrder}
 use Rattle.history.specs.Recorded.{recordsFrom}
-use Rattle.history.proofs.Chain.{Chain, front-snoc, head-snoc}
+use Rattle.history.proofs.Chain.{Chain}
 use Rattle.history.proofs.CountLaws.{all-counts}
 use Rattle.history.proofs.Deliver.{delivered, items, deliver-chain, live-items, items-agree}
 use Rattle.history.proofs.Invariant.{Holds, some-live}
