@@ -164,13 +164,15 @@ module _ (a : View) (area : List ℕ) (f : ℕ → List ℕ) (h : Holds a area f
           chain = chain-join Q (beforeOf a) (last ∷ []) (h .i) (h .b) (g .id) (g .min) (g .id + 1) (a .end + 1 + 1)
               (chain-keep (g .slot) (beforeOf a) (h .i) (h .b) (g .id) (g .min)
               (λ x n m y. keep-other area f (a .k) (a .c) (h .all) (g .slot) (g .size) bytes (s .upto .slot) in-slot (a .end + 1) p x n
-              (omega (arith, s .under)) y) (s .fresh) (s .chain))
-              (record {
-                id = refl;
-                min = refl;
-                order = s .under;
-                good = keep-grown area f (a .k) (a .c) (h .all) (a .end + 1) p g (s .under) (s .upto) fits little few;
-              }, (refl, refl));
+              (omega (arith, s .under)) y) (s .fresh) (s .chain)) (
+                record {
+                  id = refl;
+                  min = refl;
+                  order = s .under;
+                  good = keep-grown area f (a .k) (a .c) (h .all) (a .end + 1) p g (s .under) (s .upto) fits little few;
+                },
+                (refl, refl),
+              );
           apart = apart-snoc (beforeOf a) last (s .apart) (s .fresh);
           live = s .live (recordRoom (length p));
         }

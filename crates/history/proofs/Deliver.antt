@@ -126,8 +126,8 @@ module _ (l : Log) (area : List ℕ) (f : ℕ → List ℕ) (s e : ℕ) (fits : 
         let good = good-row (g .slot) (length pre + 12) (length p) in-area (omega arith) in (
           good,
           good-payload (g .slot) (length pre + 12) (length p) good
-          ∙ sym (part-part (g .slot * l .c) (g .size) (length pre + 12) (length p) area inside) ∙ ap (part (length pre + 12) (length p)) is
-          ∙ ap (take (length p)) (drop-append-add pre (recordBytes id p ++ post) 12) ∙ record-payload id p post,
+              ∙ sym (part-part (g .slot * l .c) (g .size) (length pre + 12) (length p) area inside) ∙ ap (part (length pre + 12) (length p)) is
+              ∙ ap (take (length p)) (drop-append-add pre (recordBytes id p ++ post) 12) ∙ record-payload id p post,
         )
 
     deliver-records : (n b : ℕ) (pre ws : List ℕ) → imageIn area (l .c) g ≡ pre ++ recordsFrom f b n

@@ -40,9 +40,9 @@ apart-rows (g ∷ gs) =
 pub rising-rows : (P : Segment → Type 0) (gs : List Segment) (i b j c : ℕ) → Chain P i b gs j c → Rising i (rowsFor gs)
 rising-rows P [] i b j c h = tt
 rising-rows P (g ∷ gs) i b j c h = (
-      omega (arith, h .0 .id),
-      subst (λ (x : ℕ). Rising (x + 1) (rowsFor gs)) (sym (h .0 .id)) (rising-rows P gs (i + 1) (g .max + 1) j c (h .1)),
-    )
+  omega (arith, h .0 .id),
+  subst (λ (x : ℕ). Rising (x + 1) (rowsFor gs)) (sym (h .0 .id)) (rising-rows P gs (i + 1) (g .max + 1) j c (h .1)),
+)
 
 module _ (area : List ℕ) (f : ℕ → List ℕ) (k c : ℕ) where
   abbrev G : Segment → Type 0

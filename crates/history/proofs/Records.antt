@@ -63,7 +63,7 @@ from-front f a m n h =
     let is : recordsFrom f a n ≡ recordsFrom f a m ++ recordsFrom f (a + m) (n - m) = ap (recordsFrom f a) z ∙ from-join f a m (n - m) in (
       omega (arith, ap length is, length-append (recordsFrom f a m) (recordsFrom f (a + m) (n - m))),
       ap (take (length (recordsFrom f a m))) is
-      ∙ take-at (recordsFrom f a m) (recordsFrom f (a + m) (n - m)) (length (recordsFrom f a m)) refl,
+          ∙ take-at (recordsFrom f a m) (recordsFrom f (a + m) (n - m)) (length (recordsFrom f a m)) refl,
     )
 
 -- no zeros are written where no padding is missing
