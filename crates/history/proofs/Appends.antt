@@ -18,7 +18,23 @@ use Rattle.seglog.proofs.Slots.{snoc-apart, apart-snoc}
 use Rattle.seglog.proofs.View.{ends-with}
 use Rattle.seglog.specs.Log.{View, freshIn, apartOf, headOf, frontOf, fitsOf}
 use Rattle.seglog.specs.declared.Segment.{Segment}
-use Rattle.seglog_append.specs.Append.{Appending, refused, appended, startAfter, grownOf, nextId, freeFrom, opensOf, lowestFree, freshOf, beforeOf, targetOf, withRecord, recordInto, appendOf}
+use Rattle.seglog_append.specs.Append.{
+  Appending,
+  refused,
+  appended,
+  startAfter,
+  grownOf,
+  nextId,
+  freeFrom,
+  opensOf,
+  lowestFree,
+  freshOf,
+  beforeOf,
+  targetOf,
+  withRecord,
+  recordInto,
+  appendOf,
+}
 use Rattle.history.specs.History.{noted}
 use Rattle.history.specs.Recorded.{recordsFrom}
 use Rattle.history.proofs.Chain.{Chain, chain-ends, chain-join, chain-keep}
@@ -187,6 +203,7 @@ append-keeps a area f p h =
     (λ q3. pick-either (AppendKeeps f p) (eqb (a .end) 18446744073709551615) (refused 4) _ (λ q. (omega arith, omega arith))
     (λ q4. pick-either (AppendKeeps f p) (opensOf a && eqb (nextId (a .segs)) 0) (refused 5) _ (λ q. (omega arith, omega arith))
     (λ q5. pick-either (AppendKeeps f p) (opensOf a && eqb (lowestFree a) (a .k)) (refused 6) _ (λ q. (omega arith, omega arith))
-    (λ q6. pick-either (AppendKeeps f p) (ltb (a .c - targetOf a .size) (recordRoom (length p))) (refused 7) _ (λ q. (omega arith, omega arith))
+    (λ q6. pick-either (AppendKeeps f p) (ltb (a .c - targetOf a .size) (recordRoom (length p))) (refused 7) _
+    (λ q. (omega arith, omega arith))
     (λ q7. written a area f h p (ltb-false maxPayload (length p) q3) (eqb-false (a .end) 18446744073709551615 q4)
     (spot-by a area f h (opensOf a) refl q5 q6) (ltb-false (a .c - targetOf a .size) (recordRoom (length p)) q7)))))))

@@ -26,7 +26,8 @@ pub chain-le : (P : Segment → Type 0) (gs : List Segment) (i a j b : ℕ) → 
 chain-le P [] i a j b h = omega arith
 chain-le P (g ∷ gs) i a j b h = omega (arith, h .0 .order, chain-le P gs (i + 1) (g .max + 1) j b (h .1))
 
-pub chain-join : (P : Segment → Type 0) (gs hs : List Segment) (i a j b k c : ℕ) → Chain P i a gs j b → Chain P j b hs k c → Chain P i a (gs ++ hs) k c
+pub chain-join : (P : Segment → Type 0) (gs hs : List Segment) (i a j b k c : ℕ) → Chain P i a gs j b → Chain P j b hs k c
+    → Chain P i a (gs ++ hs) k c
 chain-join P [] hs i a j b k c h g = rw (h .0, h .1) g
 chain-join P (x ∷ gs) hs i a j b k c h g = (h .0, chain-join P gs hs (i + 1) (x .max + 1) j b k c (h .1) g)
 
@@ -44,19 +45,38 @@ chain-split (x ∷ gs) hs i a k c h =
 
 -- ---- what is kept of segments that do not have a slot
 
-pub chain-keep : {P Q : Segment → Type 0} (slot : ℕ) (gs : List Segment) (i a j b : ℕ) → ((g : Segment) → (g .slot ≡ slot → ⊥) → g .max < b → P g → Q g)
+pub chain-keep : {P Q : Segment → Type 0} (slot : ℕ) (gs : List Segment) (i a j b : ℕ)
+    → ((g : Segment) → (g .slot ≡ slot → ⊥) → g .max < b → P g → Q g)
     → freshIn slot gs ≡ true → Chain P i a gs j b → Chain Q i a gs j b
 chain-keep {P} slot [] i a j b t n h = h
 chain-keep {P} slot (g ∷ gs) i a j b t n h =
     let u = fresh-cons slot g gs n in
-    let l = h .0 in
-    (record { id = l .id; min = l .min; order = l .order; good = t g (u .here) (omega (arith, chain-le P gs (i + 1) (g .max + 1) j b (h .1))) (l .good) }, chain-keep slot gs (i + 1) (g .max + 1) j b t (u .rest) (h .1))
+    let l = h .0 in (
+      record {
+        id = l .id;
+        min = l .min;
+        order = l .order;
+        good = t g (u .here)
+            (omega (arith, chain-le P gs (i + 1) (g .max + 1) j b (h .1))) (l .good);
+      },
+      chain-keep slot gs (i + 1) (g .max + 1) j b t (u .rest)
+          (h .1),
+    )
 
-pub chain-map : {P Q : Segment → Type 0} (gs : List Segment) (i a j b : ℕ) → ((g : Segment) → g .max < b → P g → Q g) → Chain P i a gs j b → Chain Q i a gs j b
+pub chain-map : {P Q : Segment → Type 0} (gs : List Segment) (i a j b : ℕ) → ((g : Segment) → g .max < b → P g → Q g) → Chain P i a gs j b
+    → Chain Q i a gs j b
 chain-map {P} [] i a j b t h = h
 chain-map {P} (g ∷ gs) i a j b t h =
-    let l = h .0 in
-    (record { id = l .id; min = l .min; order = l .order; good = t g (omega (arith, chain-le P gs (i + 1) (g .max + 1) j b (h .1))) (l .good) }, chain-map gs (i + 1) (g .max + 1) j b t (h .1))
+    let l = h .0 in (
+      record {
+        id = l .id;
+        min = l .min;
+        order = l .order;
+        good = t g (omega (arith, chain-le P gs (i + 1) (g .max + 1) j b (h .1)))
+            (l .good);
+      },
+      chain-map gs (i + 1) (g .max + 1) j b t (h .1),
+    )
 
 -- ---- the last segment
 
@@ -68,11 +88,22 @@ pub record Ends (P : Segment → Type 0) (i a : ℕ) (hs : List Segment) (g : Se
   pub id : g .id + 1 ≡ j
   pub max : g .max + 1 ≡ b
 
-pub chain-snoc : (P : Segment → Type 0) (hs : List Segment) (g : Segment) (i a j b : ℕ) → Chain P i a (hs ++ (g ∷ [])) j b → Ends P i a hs g j b
+pub chain-snoc : (P : Segment → Type 0) (hs : List Segment) (g : Segment) (i a j b : ℕ) → Chain P i a (hs ++ (g ∷ [])) j b
+    → Ends P i a hs g j b
 chain-snoc P hs g i a j b h =
     let t = chain-split hs (g ∷ []) i a j b h in
     let l = t .right .0 in
-    record { left = subst (λ (y : ℕ). Chain P i a hs y (g .min)) (sym (l .id)) (subst (λ (y : ℕ). Chain P i a hs (t .j) y) (sym (l .min)) (t .left)); order = omega arith; good = l .good; id = ap (λ (y : ℕ). y + 1) (l .id) ∙ t .right .1 .0; max = t .right .1 .1 }
+    record {
+      left = subst (λ (y : ℕ). Chain P i a hs y (g .min)) (sym (l .id))
+          (subst (λ (y : ℕ). Chain P i a hs (t .j) y) (sym (l .min)) (t .left));
+      order = omega arith;
+      good = l .good;
+      id = ap (λ (y : ℕ). y + 1)
+          (l .id) ∙ t .right .1 .0;
+      max = t .right .1 .1;
+    }
 
-pub chain-ends : (P : Segment → Type 0) (gs : List Segment) (i a j b : ℕ) → 0 < length gs → Chain P i a gs j b → Ends P i a (frontOf gs) (headOf gs) j b
-chain-ends P gs i a j b l h = chain-snoc P (frontOf gs) (headOf gs) i a j b (subst (λ (x : List Segment). Chain P i a x j b) (ends-with gs l) h)
+pub chain-ends : (P : Segment → Type 0) (gs : List Segment) (i a j b : ℕ) → 0 < length gs → Chain P i a gs j b
+    → Ends P i a (frontOf gs) (headOf gs) j b
+chain-ends P gs i a j b l h =
+    chain-snoc P (frontOf gs) (headOf gs) i a j b (subst (λ (x : List Segment). Chain P i a x j b) (ends-with gs l) h)

@@ -97,7 +97,8 @@ unfolding liveItems
 live-items f s e zero a h o u = absurd (omega arith)
 live-items f s e (suc n) a h o u = go (leb s a) refl (live-items f s e n (suc a))
   where
-    go : (b : Bool) → leb s a ≡ b → (suc a ≤ s → s ≤ e → e < suc a + n → liveItems f s e (suc a) n ≡ items f s (e + 1 - s)) → liveItems f s e a (suc n) ≡ items f s (e + 1 - s)
+    go : (b : Bool) → leb s a ≡ b → (suc a ≤ s → s ≤ e → e < suc a + n → liveItems f s e (suc a) n ≡ items f s (e + 1 - s))
+        → liveItems f s e a (suc n) ≡ items f s (e + 1 - s)
     go true q ih =
         let same : a ≡ s = omega (arith, leb-true s a q) in
         let z : min (a + suc n) (e + 1) - a ≡ e + 1 - s = omega arith in
@@ -126,7 +127,8 @@ module _ (l : Log) (area : List ℕ) (f : ℕ → List ℕ) (s e : ℕ) (fits : 
         let good = good-row (g .slot) (length pre + 12) (length p) in-area (omega arith) in (
           good,
           good-payload (g .slot) (length pre + 12) (length p) good
-              ∙ sym (part-part (g .slot * l .c) (g .size) (length pre + 12) (length p) area inside) ∙ ap (part (length pre + 12) (length p)) is
+              ∙ sym (part-part (g .slot * l .c) (g .size) (length pre + 12) (length p) area inside)
+              ∙ ap (part (length pre + 12) (length p)) is
               ∙ ap (take (length p)) (drop-append-add pre (recordBytes id p ++ post) 12) ∙ record-payload id p post,
         )
 
@@ -168,8 +170,10 @@ module _ (l : Log) (area : List ℕ) (f : ℕ → List ℕ) (s e : ℕ) (fits : 
       let under = chain-le (Stored area f (l .k) (l .c)) gs (i + 1) (g .max + 1) j b′ (h .1) in
       let y : b′ - b ≡ (g .max + 1 - b) + (b′ - (g .max + 1)) = omega (arith, t .order, under) in
       let z : b + (g .max + 1 - b) ≡ g .max + 1 = omega (arith, t .order) in
-      deliver-records g (p .slot) (p .room) (g .max + 1 - g .min) (g .min) [] (rowsChain area f (l .k) (l .c) s e order gs) (p .image) (p .long)
-      ∙ ap (λ (x : List Item). liveItems f s e (g .min) (g .max + 1 - g .min) ++ x) (deliver-chain gs (i + 1) (g .max + 1) j b′ order (h .1))
+      deliver-records g (p .slot) (p .room) (g .max + 1 - g .min) (g .min) [] (rowsChain area f (l .k) (l .c) s e order gs) (p .image)
+      (p .long)
+      ∙ ap (λ (x : List Item). liveItems f s e (g .min) (g .max + 1 - g .min) ++ x)
+      (deliver-chain gs (i + 1) (g .max + 1) j b′ order (h .1))
       ∙ ap (λ (x : ℕ). liveItems f s e x (g .max + 1 - x) ++ liveItems f s e (g .max + 1) (b′ - (g .max + 1))) (t .min)
       ∙ ap (λ (x : ℕ). liveItems f s e b (g .max + 1 - b) ++ liveItems f s e x (b′ - (g .max + 1))) (sym z)
       ∙ sym (ap (liveItems f s e b) y ∙ live-join f s e b (g .max + 1 - b) (b′ - (g .max + 1)))

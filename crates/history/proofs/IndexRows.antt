@@ -51,6 +51,7 @@ module _ (l : Log) (area : List ℕ) (f : ℕ → List ℕ) where
   rows-are (suc n) a (x ∷ y ∷ z ∷ []) rest long is i h = absurd (omega arith)
   rows-are (suc n) a (x ∷ y ∷ z ∷ w ∷ ws) rest long is i h = go i h (rows-are n (suc a) ws rest (omega arith) (cc))
     where
-      go : (i : ℕ) → i < suc n → ((i : ℕ) → i < n → RowIs l area (ws ++ rest) f (suc a) i) → RowIs l area (x ∷ y ∷ z ∷ w ∷ (ws ++ rest)) f a i
+      go : (i : ℕ) → i < suc n → ((i : ℕ) → i < n → RowIs l area (ws ++ rest) f (suc a) i)
+          → RowIs l area (x ∷ y ∷ z ∷ w ∷ (ws ++ rest)) f a i
       go zero h ih = first-row a x y z w (ws ++ rest) (cc) (cc) (cc)
       go (suc i) h ih = next-row a x y z w (ws ++ rest) i (ih i (omega arith))

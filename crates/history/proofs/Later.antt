@@ -56,7 +56,8 @@ grows-more (g ∷ x ∷ gs) (y ∷ ys) zs h = (h .0, grows-more (x ∷ gs) ys zs
 
 grows-last : (gs hs : List Segment) (y z : Segment) → More y z → Grows gs (hs ++ (y ∷ [])) → Grows gs (hs ++ (z ∷ []))
 grows-last [] hs y z m h = tt
-grows-last (g ∷ []) [] y z m h = record { id = h .id ∙ m .id; slot = h .slot ∙ m .slot; min = h .min ∙ m .min; max = omega (arith, h .max, m .max) }
+grows-last (g ∷ []) [] y z m h =
+    record { id = h .id ∙ m .id; slot = h .slot ∙ m .slot; min = h .min ∙ m .min; max = omega (arith, h .max, m .max) }
 grows-last (g ∷ []) (w ∷ hs) y z m h = h
 grows-last (g ∷ x ∷ gs) [] y z m h = absurd (grows-nil x gs (h .1))
 grows-last (g ∷ x ∷ gs) (w ∷ hs) y z m h = (h .0, grows-last (x ∷ gs) hs y z m (h .1))
@@ -84,7 +85,8 @@ pub record After (a₀ : View) (f₀ : ℕ → List ℕ) (a : View) (f : ℕ →
   pub grows : Grows (a₀ .segs) (a .segs)
 
 pub after-refl : (a : View) (f : ℕ → List ℕ) → After a f a f
-after-refl a f = record { k = refl; c = refl; m = refl; start = λ some. refl; end = omega arith; same = λ i h. refl; grows = grows-refl (a .segs) }
+after-refl a f =
+    record { k = refl; c = refl; m = refl; start = λ some. refl; end = omega arith; same = λ i h. refl; grows = grows-refl (a .segs) }
 
 -- an append goes on from there
 append-after : (a₀ : View) (f₀ : ℕ → List ℕ) (a : View) (area : List ℕ) (f : ℕ → List ℕ) (p : List ℕ) → Holds a area f → After a₀ f₀ a f
@@ -119,9 +121,11 @@ append-after a₀ f₀ a area f p h w =
     to-head l =
         let e = chain-ends (Stored area f (a .k) (a .c)) (a .segs) (h .i) (h .b) (h .j) (a .end + 1) l (h .chain) in
         grows-last (a₀ .segs) (frontOf (a .segs)) (headOf (a .segs)) (last (headOf (a .segs)))
-        (record { id = refl; slot = refl; min = refl; max = omega (arith, e .max) }) (subst (Grows (a₀ .segs)) (ends-with (a .segs) l) (w .grows))
+        (record { id = refl; slot = refl; min = refl; max = omega (arith, e .max) })
+        (subst (Grows (a₀ .segs)) (ends-with (a .segs) l) (w .grows))
 
-    by : (t : Bool) → opensOf a ≡ t → Grows (a₀ .segs) (pick t (a .segs) (frontOf (a .segs)) ++ (last (pick t (freshOf a) (headOf (a .segs))) ∷ []))
+    by : (t : Bool) → opensOf a ≡ t → Grows (a₀ .segs)
+        (pick t (a .segs) (frontOf (a .segs)) ++ (last (pick t (freshOf a) (headOf (a .segs))) ∷ []))
     by true q = grows-more (a₀ .segs) (a .segs) (last (freshOf a) ∷ []) (w .grows)
     by false q = to-head (opens-some a q)
 
@@ -133,10 +137,12 @@ appends-after a₀ f₀ [] t f c = c
 appends-after a₀ f₀ (p ∷ ps) t f c =
     appends-after a₀ f₀ ps (step t (append p)) (heardCall f t (append p))
     (on-view (λ (x : Held). Came (After a₀ f₀) (step x (append p)) (heardCall f x (append p))) t f c
-    (came-append (c .view) (t .area) f (c .holds) (After a₀ f₀) (c .also) p (append-after a₀ f₀ (c .view) (t .area) f p (c .holds) (c .also))))
+    (came-append (c .view) (t .area) f (c .holds) (After a₀ f₀) (c .also) p
+    (append-after a₀ f₀ (c .view) (t .area) f p (c .holds) (c .also))))
 
 -- the first segment keeps its first record
-pub first-same : (P Q : Segment → Type 0) (gs ys : List Segment) (i b j c i′ b′ j′ c′ : ℕ) → 0 < length gs → Grows gs ys → Chain P i b gs j c
+pub first-same : (P Q : Segment → Type 0) (gs ys : List Segment) (i b j c i′ b′ j′ c′ : ℕ) → 0 < length gs → Grows gs ys
+    → Chain P i b gs j c
     → Chain Q i′ b′ ys j′ c′ → b ≡ b′
 first-same P Q [] ys i b j c i′ b′ j′ c′ l w h h′ = absurd (omega arith)
 first-same P Q (g ∷ []) [] i b j c i′ b′ j′ c′ l w h h′ = absurd w

@@ -72,7 +72,8 @@ module _ (f : ℕ → List ℕ) (s e : ℕ) where
     unfolding recordsFrom
     goes-on g =
         step-next img s e c (length (f a)) a
-        (record-header a (f a) pre (recordsFrom f (suc a) n) (c .pos) at (plain .small a (omega arith) (omega arith)) (omega (arith, plain .ids)))
+        (record-header a (f a) pre (recordsFrom f (suc a) n) (c .pos) at (plain .small a (omega arith) (omega arith))
+        (omega (arith, plain .ids)))
         g (not-cut (length img) (c .pos) s e (length (f a)) a (omega (arith, long, room-ge (length (f a)))))
 
     regrouped : img ≡ (pre ++ recordBytes a (f a)) ++ recordsFrom f (suc a) n
@@ -80,7 +81,8 @@ module _ (f : ℕ → List ℕ) (s e : ℕ) where
     regrouped = sym (append-assoc pre (recordBytes a (f a)) (recordsFrom f (suc a) n))
 
     whole′ : length (pre ++ recordBytes a (f a)) % 4096 ≡ 0
-    whole′ = rw (length-append, record-length) (multiple-add 4096 (length pre) (recordRoom (length (f a))) whole (room-pages (length (f a))))
+    whole′ =
+        rw (length-append, record-length) (multiple-add 4096 (length pre) (recordRoom (length (f a))) whole (room-pages (length (f a))))
 
     at′ : on c a .pos ≡ length (pre ++ recordBytes a (f a))
     unfolding advancedOf
@@ -127,7 +129,8 @@ module _ (f : ℕ → List ℕ) (s e : ℕ) where
       rows-end (pre ++ recordsFrom f a 0) slot s e (record { words = ws; scan = c }) (at-end pre a c at)
       ∙ ap (λ (l : List ℕ). pen l c) (sym (append-nil ws))
   rows-over slot (suc n) pre a c ws whole at plain g =
-      rows-next (pre ++ recordsFrom f a (suc n)) slot s e (pen ws c) (on c a) (there pre a n c whole at plain) (goes-on pre a n c whole at plain g)
+      rows-next (pre ++ recordsFrom f a (suc n)) slot s e (pen ws c) (on c a) (there pre a n c whole at plain)
+      (goes-on pre a n c whole at plain g)
       ∙ ap (λ (w : Pen). rowsIn (pre ++ recordsFrom f a (suc n)) slot s e w) moved
       ∙ ap (λ (l : List ℕ). rowsIn l slot s e (pen (ws ++ row) (on c a))) (regrouped pre a n c whole at plain)
       ∙ rows-over slot n (pre ++ recordBytes a (f a)) (suc a) (on c a) (ws ++ row) (whole′ pre a n c whole at plain)

@@ -15,7 +15,22 @@ use Rattle.seglog.proofs.Slots.{fresh-cons, cons-fresh, snoc-apart, apart-snoc}
 use Rattle.seglog.proofs.View.{front-snoc, head-snoc}
 use Rattle.seglog.specs.Log.{View, fitsOf, apartOf, freshIn, frontOf, headOf}
 use Rattle.seglog.specs.declared.Segment.{Segment}
-use Rattle.seglog_prune.specs.Prune.{Pruning, refused, pruned, pruneOf, dropOld, startedAt, pruneOldestOf, dropNew, keepAt, cutOff, findCut, imageIn, cutAt, pruneRecentOf}
+use Rattle.seglog_prune.specs.Prune.{
+  Pruning,
+  refused,
+  pruned,
+  pruneOf,
+  dropOld,
+  startedAt,
+  pruneOldestOf,
+  dropNew,
+  keepAt,
+  cutOff,
+  findCut,
+  imageIn,
+  cutAt,
+  pruneRecentOf,
+}
 use Rattle.history.specs.Recorded.{recordsFrom}
 use Rattle.history.proofs.Chain.{Chain, chain-join}
 use Rattle.history.proofs.Cuts.{cut-records}
@@ -77,26 +92,40 @@ pub record Old (P : Segment → Type 0) (i b n j c : ℕ) (gs : List Segment) : 
   pub apart : apartOf gs ≡ true
   pub live : (e : ℕ) → Live n e j gs
 
-pub old : (P : Segment → Type 0) (gs : List Segment) (i b n j c : ℕ) → 0 < length gs → b ≤ n → n < c → Chain P i b gs j c → apartOf gs ≡ true → Old P i b n j c (dropOld n gs)
+pub old : (P : Segment → Type 0) (gs : List Segment) (i b n j c : ℕ) → 0 < length gs → b ≤ n → n < c → Chain P i b gs j c
+    → apartOf gs ≡ true → Old P i b n j c (dropOld n gs)
 unfolding dropOld apartOf
 old P [] i b n j c s l u h p = absurd (omega arith)
 old P (g ∷ []) i b n j c s l u h p =
-    record { i′ = i; b′ = b; first = omega arith; low = omega arith; chain = h; apart = p; live = λ e. (omega (arith, h .0 .min), omega (arith, h .1 .1)) }
+    let inside : (e : ℕ) → Live n e j (g ∷ []) = λ e. (omega (arith, h .0 .min), omega (arith, h .1 .1)) in
+    record { i′ = i; b′ = b; first = omega arith; low = omega arith; chain = h; apart = p; live = inside }
 old P (g ∷ x ∷ gs) i b n j c s l u h p =
     pick-either (Old P i b n j c) (ltb (g .max) n) (dropOld n (x ∷ gs)) (g ∷ x ∷ gs)
-    (λ q. let t = old P (x ∷ gs) (i + 1) (g .max + 1) n j c (omega arith) (omega (arith, ltb-true (g .max) n q)) u (h .1) (and-both (freshIn (g .slot) (x ∷ gs)) (apartOf (x ∷ gs)) p .1) in
-    record { i′ = t .i′; b′ = t .b′; first = omega (arith, t .first); low = omega (arith, t .low, h .0 .order); chain = t .chain; apart = t .apart; live = t .live })
-    (λ q. record { i′ = i; b′ = b; first = omega arith; low = omega arith; chain = h; apart = p; live = λ e. (omega (arith, h .0 .min), ltb-false (g .max) n q) })
+    (λ q. let t = old P (x ∷ gs) (i + 1) (g .max + 1) n j c (omega arith) (omega (arith, ltb-true (g .max) n q)) u (h .1)
+    (and-both (freshIn (g .slot) (x ∷ gs)) (apartOf (x ∷ gs)) p .1) in
+    record {
+      i′ = t .i′;
+      b′ = t .b′;
+      first = omega (arith, t .first);
+      low = omega (arith, t .low, h .0 .order);
+      chain = t .chain;
+      apart = t .apart;
+      live = t .live;
+    })
+    (λ q. let inside : (e : ℕ) → Live n e j (g ∷ x ∷ gs) = λ e. (omega (arith, h .0 .min), ltb-false (g .max) n q) in
+    record { i′ = i; b′ = b; first = omega arith; low = omega arith; chain = h; apart = p; live = inside })
 
 pub live-low : (P : Segment → Type 0) (gs : List Segment) (i b s e j c : ℕ) → 0 < length gs → Chain P i b gs j c → Live s e j gs → b ≤ s
 live-low P [] i b s e j c l h v = absurd (omega arith)
 live-low P (g ∷ gs) i b s e j c l h v = omega (arith, h .0 .min, v .0)
 
-pub oldest-holds : (a : View) (area : List ℕ) (f : ℕ → List ℕ) (n : ℕ) → Holds a area f → Inner a n → Holds (startedAt a n (dropOld n (a .segs))) area f
+pub oldest-holds : (a : View) (area : List ℕ) (f : ℕ → List ℕ) (n : ℕ) → Holds a area f → Inner a n
+    → Holds (startedAt a n (dropOld n (a .segs))) area f
 oldest-holds a area f n h w =
     let P : Segment → Type 0 = Stored area f (a .k) (a .c) in
     let l = live-low P (a .segs) (h .i) (h .b) (a .start) (a .end) (h .j) (a .end + 1) (w .some) (h .chain) (h .live) in
-    let o = old P (a .segs) (h .i) (h .b) n (h .j) (a .end + 1) (w .some) (omega (arith, l, w .lower)) (omega (arith, w .upper)) (h .chain) (h .apart) in
+    let o = old P (a .segs) (h .i) (h .b) n (h .j) (a .end + 1) (w .some) (omega (arith, l, w .lower)) (omega (arith, w .upper)) (h .chain)
+    (h .apart) in
     record {
       sizes = h .sizes;
       all = h .all;
@@ -123,7 +152,8 @@ pub new-none : (P : Segment → Type 0) (gs : List Segment) (i b n j c : ℕ) �
 unfolding dropNew
 new-none P [] i b n j c l h = refl
 new-none P (g ∷ gs) i b n j c l h =
-    ap (keepAt n g) (new-none P gs (i + 1) (g .max + 1) n j c (omega (arith, h .0 .order)) (h .1)) ∙ simp (lt-ltb n (g .min) (omega (arith, h .0 .min)))
+    ap (keepAt n g) (new-none P gs (i + 1) (g .max + 1) n j c (omega (arith, h .0 .order)) (h .1))
+    ∙ simp (lt-ltb n (g .min) (omega (arith, h .0 .min)))
 
 pub keep-cons : (n : ℕ) (g : Segment) (hs : List Segment) (x : Segment) → keepAt n g (hs ++ (x ∷ [])) ≡ g ∷ (hs ++ (x ∷ []))
 keep-cons n g [] x = refl
@@ -148,14 +178,26 @@ new P (g ∷ gs) i b n j c l u h = go (ltb (g .max) n) refl (λ q. new P gs (i +
     go : (t : Bool) → ltb (g .max) n ≡ t → (g .max + 1 ≤ n → New P (i + 1) (g .max + 1) n gs) → New P i b n (g ∷ gs)
     go true q ih =
         let t = ih (omega (arith, ltb-true (g .max) n q)) in
-        record { hs = g ∷ t .hs; g = t .g; rest = t .rest; is = ap (λ (y : List Segment). g ∷ y) (t .is); kept = ap (keepAt n g) (t .kept) ∙ keep-cons n g (t .hs) (t .g); left = (h .0, t .left); good = t .good; low = t .low; high = t .high }
+        record {
+          hs = g ∷ t .hs;
+          g = t .g;
+          rest = t .rest;
+          is = ap (λ (y : List Segment). g ∷ y) (t .is);
+          kept = ap (keepAt n g) (t .kept) ∙ keep-cons n g (t .hs) (t .g);
+          left = (h .0, t .left);
+          good = t .good;
+          low = t .low;
+          high = t .high;
+        }
     go false q ih =
         record {
           hs = [];
           g = g;
           rest = gs;
           is = refl;
-          kept = ap (keepAt n g) (new-none P gs (i + 1) (g .max + 1) n j c (omega (arith, ltb-false (g .max) n q)) (h .1)) ∙ simp (le-ltb n (g .min) (omega (arith, h .0 .min)));
+          kept =
+              ap (keepAt n g) (new-none P gs (i + 1) (g .max + 1) n j c (omega (arith, ltb-false (g .max) n q)) (h .1))
+              ∙ simp (le-ltb n (g .min) (omega (arith, h .0 .min)));
           left = (sym (h .0 .id), sym (h .0 .min));
           good = h .0 .good;
           low = omega (arith, h .0 .min);
@@ -165,13 +207,15 @@ new P (g ∷ gs) i b n j c l u h = go (ltb (g .max) n) refl (λ q. new P gs (i +
 fresh-front : (s : ℕ) (hs gs : List Segment) → freshIn s (hs ++ gs) ≡ true → freshIn s hs ≡ true
 unfolding freshIn
 fresh-front s [] gs h = refl
-fresh-front s (g ∷ hs) gs h = let t = fresh-cons s g (hs ++ gs) h in cons-fresh s g hs (record { here = t .here; rest = fresh-front s hs gs (t .rest) })
+fresh-front s (g ∷ hs) gs h =
+    let t = fresh-cons s g (hs ++ gs) h in cons-fresh s g hs (record { here = t .here; rest = fresh-front s hs gs (t .rest) })
 
 apart-front : (hs gs : List Segment) → apartOf (hs ++ gs) ≡ true → apartOf hs ≡ true
 unfolding apartOf
 apart-front [] gs h = refl
 apart-front (g ∷ hs) gs h =
-    let t = and-both (freshIn (g .slot) (hs ++ gs)) (apartOf (hs ++ gs)) h in both-and (freshIn (g .slot) hs) (apartOf hs) (fresh-front (g .slot) hs gs (t .0)) (apart-front hs gs (t .1))
+    let t = and-both (freshIn (g .slot) (hs ++ gs)) (apartOf (hs ++ gs)) h in both-and (freshIn (g .slot) hs) (apartOf hs)
+    (fresh-front (g .slot) hs gs (t .0)) (apart-front hs gs (t .1))
 
 -- g ends with the record n, whose payloads f has
 abbrev pub closedBy : (ℕ → List ℕ) → Segment → ℕ → Segment
@@ -180,7 +224,8 @@ closedBy f g n = record { id = g .id; slot = g .slot; size = length (recordsFrom
 abbrev pub endedView : View → (ℕ → List ℕ) → ℕ → List Segment → Segment → View
 endedView a f n hs g = record { k = a .k; c = a .c; m = a .m; start = a .start; end = n; segs = hs ++ (closedBy f g n ∷ []) }
 
-live-ended : (hs rest : List Segment) (g y : Segment) (s e j e′ j′ : ℕ) → Live s e j (hs ++ (g ∷ rest)) → y .min ≡ g .min → s ≤ y .max → Live s e′ j′ (hs ++ (y ∷ []))
+live-ended : (hs rest : List Segment) (g y : Segment) (s e j e′ j′ : ℕ) → Live s e j (hs ++ (g ∷ rest)) → y .min ≡ g .min → s ≤ y .max
+    → Live s e′ j′ (hs ++ (y ∷ []))
 live-ended [] rest g y s e j e′ j′ h q l = (omega (arith, h .0), omega arith)
 live-ended (x ∷ hs) rest g y s e j e′ j′ h q l = (h .0, h .1)
 
@@ -191,7 +236,8 @@ module _ (a : View) (area : List ℕ) (f : ℕ → List ℕ) (n : ℕ) (h : Hold
   pub at-new : New P (h .i) (h .b) n (a .segs)
   at-new =
       new P (a .segs) (h .i) (h .b) n (h .j) (a .end + 1)
-      (omega (arith, live-low P (a .segs) (h .i) (h .b) (a .start) (a .end) (h .j) (a .end + 1) (w .some) (h .chain) (h .live), w .lower)) (omega (arith, w .upper)) (h .chain)
+      (omega (arith, live-low P (a .segs) (h .i) (h .b) (a .start) (a .end) (h .j) (a .end + 1) (w .some) (h .chain) (h .live), w .lower))
+      (omega (arith, w .upper)) (h .chain)
 
   -- the cut is found, and nothing is missing
   pub ended : (hs : List Segment) (g : Segment) → P g → g .min ≤ n → n ≤ g .max
@@ -200,10 +246,12 @@ module _ (a : View) (area : List ℕ) (f : ℕ → List ℕ) (n : ℕ) (h : Hold
       let fit = from-front f (g .min) (n + 1 - g .min) (g .max + 1 - g .min) (omega arith) in
       let found : findCut (imageIn area (a .c) g) n 0 ≡ cutAt (length (recordsFrom f (g .min) (n + 1 - g .min))) =
       ap (λ (l : List ℕ). findCut l n 0) (good .image)
-      ∙ cut-records f n (g .max + 1 - g .min) [] (g .min) 0 refl refl (record { small = λ i l u. good .small i l (omega arith); ids = omega (arith, good .top) }) low (omega arith)
+      ∙ cut-records f n (g .max + 1 - g .min) [] (g .min) 0 refl refl
+      (record { small = λ i l u. good .small i l (omega arith); ids = omega (arith, good .top) }) low (omega arith)
       ∙ ap cutAt (omega arith) in
       ap (cutOff a area n hs g) found
-      ∙ ap (pruned (endedView a f n hs g)) (splice-whole (g .slot * a .c + g .size) (length (recordsFrom f (g .min) (n + 1 - g .min))) (g .size) area (omega (arith, fit .0, good .long)))
+      ∙ ap (pruned (endedView a f n hs g)) (splice-whole (g .slot * a .c + g .size) (length (recordsFrom f (g .min) (n + 1 - g .min)))
+      (g .size) area (omega (arith, fit .0, good .long)))
 
   ended-good : (g : Segment) → P g → g .min ≤ n → n ≤ g .max → P (closedBy f g n)
   ended-good g good low high =
@@ -215,7 +263,9 @@ module _ (a : View) (area : List ℕ) (f : ℕ → List ℕ) (n : ℕ) (h : Hold
         top = omega (arith, good .top);
         small = λ i l u. good .small i l (omega arith);
         long = refl;
-        image = sym (take-take (length (recordsFrom f (g .min) (n + 1 - g .min))) (g .size) (drop (g .slot * a .c) area) (omega (arith, fit .0, good .long)))
+        image =
+            sym (take-take (length (recordsFrom f (g .min) (n + 1 - g .min))) (g .size) (drop (g .slot * a .c) area)
+            (omega (arith, fit .0, good .long)))
             ∙ ap (take (length (recordsFrom f (g .min) (n + 1 - g .min)))) (good .image) ∙ fit .1;
       }
 
@@ -223,7 +273,8 @@ module _ (a : View) (area : List ℕ) (f : ℕ → List ℕ) (n : ℕ) (h : Hold
   ended-holds =
       let t = at-new in
       let split : a .segs ≡ (t .hs ++ (t .g ∷ [])) ++ t .rest = t .is ∙ sym (append-assoc (t .hs) (t .g ∷ []) (t .rest)) in
-      let slots = snoc-apart (t .hs) (t .g) (apart-front (t .hs ++ (t .g ∷ [])) (t .rest) (subst (λ (l : List Segment). apartOf l ≡ true) split (h .apart))) in
+      let slots = snoc-apart (t .hs) (t .g) (apart-front (t .hs ++ (t .g ∷ [])) (t .rest)
+      (subst (λ (l : List Segment). apartOf l ≡ true) split (h .apart))) in
       record {
         sizes = h .sizes;
         all = h .all;
@@ -236,17 +287,23 @@ module _ (a : View) (area : List ℕ) (f : ℕ → List ℕ) (n : ℕ) (h : Hold
         chain = chain-join P (t .hs) (closedBy f (t .g) n ∷ []) (h .i) (h .b) (t .g .id) (t .g .min) (t .g .id + 1) (n + 1) (t .left)
             (record { id = refl; min = refl; order = t .low; good = ended-good (t .g) (t .good) (t .low) (t .high) }, (refl, refl));
         apart = apart-snoc (t .hs) (closedBy f (t .g) n) (slots .0) (slots .1);
-        live = live-ended (t .hs) (t .rest) (t .g) (closedBy f (t .g) n) (a .start) (a .end) (h .j) n (t .g .id + 1) (subst (λ (l : List Segment). Live (a .start) (a .end) (h .j) l) (t .is) (h .live)) refl (w .lower);
+        live =
+            live-ended (t .hs) (t .rest) (t .g) (closedBy f (t .g) n) (a .start) (a .end) (h .j) n (t .g .id + 1)
+            (subst (λ (l : List Segment). Live (a .start) (a .end) (h .j) l) (t .is) (h .live)) refl (w .lower);
       }
 
-  pub recent-is : cutOff a area n (frontOf (dropNew n (a .segs))) (headOf (dropNew n (a .segs))) (findCut (imageIn area (a .c) (headOf (dropNew n (a .segs)))) n 0)
+  -- prune recent, past its tests, is the log cut there, with the area as it was
+  pub recent-is : cutOff a area n (frontOf (dropNew n (a .segs))) (headOf (dropNew n (a .segs)))
+      (findCut (imageIn area (a .c) (headOf (dropNew n (a .segs)))) n 0)
       ≡ pruned (endedView a f n (at-new .hs) (at-new .g)) area
   recent-is =
       let t = at-new in
       let front : frontOf (dropNew n (a .segs)) ≡ t .hs = ap (λ (l : List Segment). frontOf l) (t .kept) ∙ front-snoc (t .hs) (t .g) in
       let head : headOf (dropNew n (a .segs)) ≡ t .g = ap (λ (l : List Segment). headOf l) (t .kept) ∙ head-snoc (t .hs) (t .g) in
-      ap (λ (l : List Segment). cutOff a area n l (headOf (dropNew n (a .segs))) (findCut (imageIn area (a .c) (headOf (dropNew n (a .segs)))) n 0)) front
-      ∙ ap (λ (y : Segment). cutOff a area n (t .hs) y (findCut (imageIn area (a .c) y) n 0)) head ∙ ended (t .hs) (t .g) (t .good) (t .low) (t .high)
+      ap (λ (l : List Segment). cutOff a area n l (headOf (dropNew n (a .segs)))
+      (findCut (imageIn area (a .c) (headOf (dropNew n (a .segs)))) n 0)) front
+      ∙ ap (λ (y : Segment). cutOff a area n (t .hs) y (findCut (imageIn area (a .c) y) n 0)) head
+      ∙ ended (t .hs) (t .g) (t .good) (t .low) (t .high)
 
 -- prune recent keeps the invariant
 pub recent-keeps : (a : View) (area : List ℕ) (f : ℕ → List ℕ) (n : ℕ) → Holds a area f → PruneKeeps f (pruneRecentOf a area n)

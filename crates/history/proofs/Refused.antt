@@ -7,7 +7,21 @@ use borrow.Author.Tests.{ne-eqb}
 use Rattle.seglog_append.specs.Append.{Appending, appendAnswer, appendLog}
 use Rattle.seglog_prune.specs.Prune.{Pruning, pruneAnswer, oldestLog, recentLog}
 use Rattle.history.specs.Corollaries.{RefusedCallsDoNotMatter}
-use Rattle.history.specs.History.{append, Held, afterAppend, heard, run, afterPrune, Call, refusalOf, step, heardCall, oldest, recent, told}
+use Rattle.history.specs.History.{
+  append,
+  Held,
+  afterAppend,
+  heard,
+  run,
+  afterPrune,
+  Call,
+  refusalOf,
+  step,
+  heardCall,
+  oldest,
+  recent,
+  told,
+}
 use Rattle.seglog_append.specs.Append as A
 use Rattle.seglog_prune.specs.Prune as P
 

@@ -72,7 +72,8 @@ module _ (f : ℕ → List ℕ) (s e : ℕ) (order : s ≤ e) where
   over-seen zero b c h = rw add-zero h
   over-seen (suc n) b c h =
       let z : suc b + n ≡ b + suc n = omega arith in
-      subst (λ (x : ℕ). Seen s e x (over f s e (advancedOf c s e (length (f b)) b) (suc b) n)) z (over-seen n (suc b) (advancedOf c s e (length (f b)) b) (step-seen b c (length (f b)) h))
+      subst (λ (x : ℕ). Seen s e x (over f s e (advancedOf c s e (length (f b)) b) (suc b) n)) z
+      (over-seen n (suc b) (advancedOf c s e (length (f b)) b) (step-seen b c (length (f b)) h))
 
   over-min : (n b : ℕ) (c : Scan) → (c .min ≡ 0 → ⊥) → over f s e c b n .min ≡ c .min
   unfolding over advancedOf
@@ -96,9 +97,11 @@ module _ (f : ℕ → List ℕ) (s e : ℕ) (order : s ≤ e) where
   unfolding over advancedOf
   head-out zero b c h = refl
   head-out (suc n) b c h =
-      head-out n (suc b) (advancedOf c s e (length (f b)) b) (λ i l u. h i (omega arith) (omega arith)) ∙ simp (ne-eqb b e (h b (omega arith) (omega arith)))
+      head-out n (suc b) (advancedOf c s e (length (f b)) b) (λ i l u. h i (omega arith) (omega arith))
+      ∙ simp (ne-eqb b e (h b (omega arith) (omega arith)))
 
-  pub head-in : (n b : ℕ) (c : Scan) → b ≤ e → e < b + n → c .pos % 4096 ≡ 0 → over f s e c b n .head ≡ c .pos + length (recordsFrom f b (e + 1 - b))
+  pub head-in : (n b : ℕ) (c : Scan) → b ≤ e → e < b + n → c .pos % 4096 ≡ 0
+      → over f s e c b n .head ≡ c .pos + length (recordsFrom f b (e + 1 - b))
   unfolding over advancedOf recordsFrom
   head-in zero b c l u p = absurd (omega arith)
   head-in (suc n) b c l u p = go (eqb b e) refl (head-in n (suc b) (advancedOf c s e (length (f b)) b))
@@ -108,18 +111,23 @@ module _ (f : ℕ → List ℕ) (s e : ℕ) (order : s ≤ e) where
 
       go : (t : Bool) → eqb b e ≡ t
           → (suc b ≤ e → e < suc b + n → paddedEnd 4096 (c .pos + 12 + length (f b)) % 4096 ≡ 0
-          → over f s e (advancedOf c s e (length (f b)) b) (suc b) n .head ≡ paddedEnd 4096 (c .pos + 12 + length (f b)) + length (recordsFrom f (suc b) (e + 1 - suc b)))
+          → over f s e (advancedOf c s e (length (f b)) b) (suc b) n .head ≡ paddedEnd 4096 (c .pos + 12 + length (f b)) + length
+          (recordsFrom f (suc b) (e + 1 - suc b)))
           → over f s e (advancedOf c s e (length (f b)) b) (suc b) n .head ≡ c .pos + length (recordsFrom f b (e + 1 - b))
       go true q ih =
           let same : b ≡ e = eqb-true b e q in
           let one : e + 1 - b ≡ suc 0 = omega arith in
-          let size : length (recordsFrom f b (e + 1 - b)) ≡ recordRoom (length (f b)) = ap (λ (k : ℕ). length (recordsFrom f b k)) one ∙ ap length (append-nil (recordBytes b (f b))) ∙ record-length b (f b) in
-          head-out n (suc b) (advancedOf c s e (length (f b)) b) (λ i l u z. omega arith) ∙ simp q (next ∙ sym (ap (λ (k : ℕ). c .pos + k) size))
+          let size : length (recordsFrom f b (e + 1 - b)) ≡ recordRoom (length (f b)) =
+          ap (λ (k : ℕ). length (recordsFrom f b k)) one ∙ ap length (append-nil (recordBytes b (f b))) ∙ record-length b (f b) in
+          head-out n (suc b) (advancedOf c s e (length (f b)) b) (λ i l u z. omega arith)
+          ∙ simp q (next ∙ sym (ap (λ (k : ℕ). c .pos + k) size))
       go false q ih =
           let one : e + 1 - b ≡ suc (e + 1 - suc b) = omega (arith, eqb-false b e q) in
           let size : length (recordsFrom f b (e + 1 - b)) ≡ recordRoom (length (f b)) + length (recordsFrom f (suc b) (e + 1 - suc b)) =
-          ap (λ (k : ℕ). length (recordsFrom f b k)) one ∙ length-append (recordBytes b (f b)) (recordsFrom f (suc b) (e + 1 - suc b)) ∙ ap (λ (k : ℕ). k + length (recordsFrom f (suc b) (e + 1 - suc b))) (record-length b (f b)) in
-          ih (omega (arith, eqb-false b e q)) (omega arith) (pad-multiple 4096 (c .pos + 12 + length (f b)) (lit< tt)) ∙ omega (arith, next, size)
+          ap (λ (k : ℕ). length (recordsFrom f b k)) one ∙ length-append (recordBytes b (f b)) (recordsFrom f (suc b) (e + 1 - suc b))
+          ∙ ap (λ (k : ℕ). k + length (recordsFrom f (suc b) (e + 1 - suc b))) (record-length b (f b)) in
+          ih (omega (arith, eqb-false b e q)) (omega arith) (pad-multiple 4096 (c .pos + 12 + length (f b)) (lit< tt))
+          ∙ omega (arith, next, size)
 
 -- a listed segment
 abbrev pub Has : Segment → List Segment → Type 0
@@ -148,9 +156,12 @@ module _ (area : List ℕ) (f : ℕ → List ℕ) (k n s e : ℕ) (order : s ≤
     one = omega arith
 
     image-is : records (imageOf area n (rowFor g)) s e (openedOf c) ≡ Next at
-    image-is = ap (λ (l : List ℕ). records l s e (openedOf c)) (p .image) ∙ walk-over f s e (g .max + 1 - g .min) [] (g .min) (openedOf c) refl refl plain (h .follows)
+    image-is =
+        ap (λ (l : List ℕ). records l s e (openedOf c)) (p .image)
+        ∙ walk-over f s e (g .max + 1 - g .min) [] (g .min) (openedOf c) refl refl plain (h .follows)
 
-    image-rows : (ws : List ℕ) → rowsIn (imageOf area n (rowFor g)) (g .slot) s e (record { words = ws; scan = openedOf c }) ≡ record { words = ws ++ rowsOver f s e (g .slot) 0 (g .min) (g .max + 1 - g .min); scan = at }
+    image-rows : (ws : List ℕ) → rowsIn (imageOf area n (rowFor g)) (g .slot) s e (record { words = ws; scan = openedOf c })
+        ≡ record { words = ws ++ rowsOver f s e (g .slot) 0 (g .min) (g .max + 1 - g .min); scan = at }
     image-rows ws =
         ap (λ (l : List ℕ). rowsIn l (g .slot) s e (record { words = ws; scan = openedOf c })) (p .image)
         ∙ rows-over f s e (g .slot) (g .max + 1 - g .min) [] (g .min) (openedOf c) ws refl refl plain (h .follows)
@@ -158,17 +169,23 @@ module _ (area : List ℕ) (f : ℕ → List ℕ) (k n s e : ℕ) (order : s ≤
     image-seen : Seen s e (g .max + 1) at
     image-seen =
         let z : g .min + (g .max + 1 - g .min) ≡ g .max + 1 = omega arith in
-        subst (λ (x : ℕ). Seen s e x at) z (over-seen f s e order (g .max + 1 - g .min) (g .min) (openedOf c) (record { follows = h .follows; start = h .start; end = h .end; live = h .live }))
+        subst (λ (x : ℕ). Seen s e x at) z (over-seen f s e order (g .max + 1 - g .min) (g .min) (openedOf c)
+        (record { follows = h .follows; start = h .start; end = h .end; live = h .live }))
 
     image-filled : filledOf (rowFor g) at ≡ g
     image-filled =
-        let lo : at .min ≡ g .min = ap (λ (j : ℕ). over f s e (openedOf c) (g .min) j .min) one ∙ over-first f s e order (g .max - g .min) (g .min) (openedOf c) refl low in
-        let hi : at .max ≡ g .max = ap (λ (j : ℕ). over f s e (openedOf c) (g .min) j .max) one ∙ over-max f s e order (g .max - g .min) (g .min) (openedOf c) ∙ omega arith in
+        let lo : at .min ≡ g .min =
+        ap (λ (j : ℕ). over f s e (openedOf c) (g .min) j .min) one
+        ∙ over-first f s e order (g .max - g .min) (g .min) (openedOf c) refl low in
+        let hi : at .max ≡ g .max =
+        ap (λ (j : ℕ). over f s e (openedOf c) (g .min) j .max) one ∙ over-max f s e order (g .max - g .min) (g .min) (openedOf c)
+        ∙ omega arith in
         λ i. record { id = g .id; slot = g .slot; size = g .size; min = lo i; max = hi i }
 
   pub through : (gs : List Segment) (i b j b′ : ℕ) (c : Scan) → 1 ≤ b → Chain P i b gs j b′ → Seen s e b c → Through gs b b′ c
   unfolding images gapOf
-  through [] i b j b′ c l h w = record { d = c; is = refl; seen = subst (λ (x : ℕ). Seen s e x c) (h .1) w; stay = λ q. refl; head = λ x y. absurd y }
+  through [] i b j b′ c l h w =
+      record { d = c; is = refl; seen = subst (λ (x : ℕ). Seen s e x c) (h .1) w; stay = λ q. refl; head = λ x y. absurd y }
   through (g ∷ gs) i b j b′ c l h w =
       let t = h .0 in
       let low : 1 ≤ g .min = omega (arith, t .min) in
@@ -179,17 +196,23 @@ module _ (area : List ℕ) (f : ℕ → List ℕ) (k n s e : ℕ) (order : s ≤
       let gap : eqb (g .size) 0 ≡ false = ne-eqb (g .size) 0 (λ z. omega (arith, size-some area f k n g (t .good) up)) in
       record {
         d = r .d;
-        is = ap (λ (o : Step). after o (λ d. behind (filledOf (rowFor g) d ∷ []) (images area n s e (rowsFor gs) (eqb (g .size) 0) d))) (image-is g (t .good) low up c w′)
+        is =
+            ap (λ (o : Step). after o (λ d. behind (filledOf (rowFor g) d ∷ []) (images area n s e (rowsFor gs) (eqb (g .size) 0) d)))
+            (image-is g (t .good) low up c w′)
             ∙ ap (λ (q : Bool). behind (filledOf (rowFor g) d1 ∷ []) (images area n s e (rowsFor gs) q d1)) gap
-            ∙ ap (behind (filledOf (rowFor g) d1 ∷ [])) (r .is) ∙ ap (λ (x : Segment). walked (r .d) (x ∷ gs)) (image-filled g (t .good) low up c w′);
+            ∙ ap (behind (filledOf (rowFor g) d1 ∷ [])) (r .is)
+            ∙ ap (λ (x : Segment). walked (r .d) (x ∷ gs)) (image-filled g (t .good) low up c w′);
         seen = r .seen;
-        stay = λ q. r .stay (omega (arith, t .order)) ∙ head-out f s e order (g .max + 1 - g .min) (g .min) (openedOf c) (λ y a z u. omega (arith, t .min));
+        stay =
+            λ q. r .stay (omega (arith, t .order)) ∙ head-out f s e order (g .max + 1 - g .min) (g .min) (openedOf c)
+            (λ y a z u. omega (arith, t .min));
         head = λ x m lo hi.
             ⊎-elim
             (λ (y : x ≡ g).
             let lo′ : g .min ≤ e = rw y at lo in
             let hi′ : e ≤ g .max = rw y at hi in
-            rw y (r .stay (omega arith) ∙ head-in f s e order (g .max + 1 - g .min) (g .min) (openedOf c) lo′ (omega arith) refl ∙ omega arith))
+            rw y (r .stay (omega arith) ∙ head-in f s e order (g .max + 1 - g .min) (g .min) (openedOf c) lo′ (omega arith) refl
+            ∙ omega arith))
             (λ y. r .head x y lo hi) m;
       }
 
@@ -210,7 +233,8 @@ module _ (area : List ℕ) (f : ℕ → List ℕ) (k n s e : ℕ) (order : s ≤
       let d1 : Scan = at g (t .good) low up c w′ in
       let row : List ℕ = rowsOver f s e (g .slot) 0 (g .min) (g .max + 1 - g .min) in
       ap (λ (v : Pen). rowsAll area n s e (rowsFor gs) v) (image-rows g (t .good) low up c w′ ws)
-      ∙ rows-through gs (i + 1) (g .max + 1) j b′ d1 (ws ++ row) (omega arith) (h .1) (image-seen g (t .good) low up c w′) ∙ append-assoc ws row (rowsChain gs)
+      ∙ rows-through gs (i + 1) (g .max + 1) j b′ d1 (ws ++ row) (omega arith) (h .1) (image-seen g (t .good) low up c w′)
+      ∙ append-assoc ws row (rowsChain gs)
 
 -- the walk begins so
 pub start-seen : (s e b : ℕ) → s ≤ e → 1 ≤ b → b ≤ s → Seen s e b startOf

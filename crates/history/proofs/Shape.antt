@@ -30,7 +30,15 @@ module _ (area : List ℕ) (f : ℕ → List ℕ) (k c : ℕ) where
   unfolding recordsFrom
   size-some g p h =
       let one : g .max + 1 - g .min ≡ suc (g .max - g .min) = omega arith in
-      omega (arith, p .long, ap (λ (n : ℕ). length (recordsFrom f (g .min) n)) one, length-append (recordBytes (g .min) (f (g .min))) (recordsFrom f (suc (g .min)) (g .max - g .min)), record-length (g .min) (f (g .min)), room-ge (length (f (g .min))))
+      omega (
+        arith,
+        p .long,
+        ap (λ (n : ℕ). length (recordsFrom f (g .min) n)) one,
+        length-append (recordBytes (g .min) (f (g .min)))
+            (recordsFrom f (suc (g .min)) (g .max - g .min)),
+        record-length (g .min) (f (g .min)),
+        room-ge (length (f (g .min))),
+      )
 
   pub below : (gs : List Segment) (i b j e : ℕ) → Chain P i b gs j e → Below k gs
   below [] i b j e h = tt
@@ -39,7 +47,9 @@ module _ (area : List ℕ) (f : ℕ → List ℕ) (k c : ℕ) where
   next-good : (g : Segment) (gs : List Segment) (i j e : ℕ) → g .id ≡ i → Chain P (i + 1) (g .max + 1) gs j e → nextOf g gs ≡ true
   unfolding nextOf
   next-good g [] i j e q h = refl
-  next-good g (x ∷ gs) i j e q h = both-and (eqb (x .id) (g .id + 1)) (eqb (x .min) (g .max + 1)) (eq-eqb (x .id) (g .id + 1) (omega (arith, h .0 .id))) (eq-eqb (x .min) (g .max + 1) (h .0 .min))
+  next-good g (x ∷ gs) i j e q h =
+      both-and (eqb (x .id) (g .id + 1)) (eqb (x .min) (g .max + 1)) (eq-eqb (x .id) (g .id + 1) (omega (arith, h .0 .id)))
+      (eq-eqb (x .min) (g .max + 1) (h .0 .min))
 
   pub chain-good : (gs : List Segment) (i b j e : ℕ) → 1 ≤ i → 1 ≤ b → Chain P i b gs j e → chainOf k c gs ≡ true
   unfolding chainOf segOf
@@ -72,7 +82,8 @@ module _ (area : List ℕ) (f : ℕ → List ℕ) (k c : ℕ) where
       (eq-eqb (x .size % 4096) 0 pages)) (eq-eqb (x .max) e (omega (arith, t .max)))
 
 pub holds-few : (a : View) (area : List ℕ) (f : ℕ → List ℕ) → Holds a area f → length (a .segs) ≤ a .k
-holds-few a area f h = pigeons (a .k) (a .segs) (h .apart) (below area f (a .k) (a .c) (a .segs) (h .i) (h .b) (h .j) (a .end + 1) (h .chain))
+holds-few a area f h =
+    pigeons (a .k) (a .segs) (h .apart) (below area f (a .k) (a .c) (a .segs) (h .i) (h .b) (h .j) (a .end + 1) (h .chain))
 
 pub holds-fits : (a : View) (area : List ℕ) (f : ℕ → List ℕ) → Holds a area f → fitsOf a area ≡ true
 unfolding fitsOf shapedOf

@@ -61,7 +61,8 @@ module _ (area : List ℕ) (k c : ℕ) (all : length area ≡ k * c) (t x : ℕ)
   write-grow = splice-grow (t * c + x) xs area inside (t * c) x refl
 
 -- a segment in another slot, whose ids are all below b
-pub keep-other : (area : List ℕ) (f : ℕ → List ℕ) (k c : ℕ) → length area ≡ k * c → (t x : ℕ) (xs : List ℕ) → t < k → x + length xs ≤ c → (b : ℕ) (p : List ℕ) (g : Segment)
+pub keep-other : (area : List ℕ) (f : ℕ → List ℕ) (k c : ℕ) → length area ≡ k * c → (t x : ℕ) (xs : List ℕ) → t < k → x + length xs ≤ c
+    → (b : ℕ) (p : List ℕ) (g : Segment)
     → (g .slot ≡ t → ⊥) → g .max < b → Stored area f k c g → Stored (splice (t * c + x) xs area) (noted f b p) k c g
 keep-other area f k c all t x xs ia is b p g n m h =
     let same : recordsFrom f (g .min) (g .max + 1 - g .min) ≡ recordsFrom (noted f b p) (g .min) (g .max + 1 - g .min) =
@@ -77,7 +78,8 @@ keep-other area f k c all t x xs ia is b p g n m h =
     }
 
 -- the segment that a record is written to
-pub keep-grown : (area : List ℕ) (f : ℕ → List ℕ) (k c : ℕ) → length area ≡ k * c → (b : ℕ) (p : List ℕ) (g : Segment) → g .min ≤ b → Upto area f k c b g
+pub keep-grown : (area : List ℕ) (f : ℕ → List ℕ) (k c : ℕ) → length area ≡ k * c → (b : ℕ) (p : List ℕ) (g : Segment) → g .min ≤ b
+    → Upto area f k c b g
     → recordRoom (length p) ≤ c - g .size → length p ≤ maxPayload → b < 2 ^ 64
     → Stored (splice (g .slot * c + g .size) (recordBytes b p) area) (noted f b p) k c (grownOf g (recordRoom (length p)) b)
 keep-grown area f k c all b p g low h fits little few =
@@ -103,7 +105,8 @@ keep-grown area f k c all b p g low h fits little few =
         ap (λ (j : ℕ). recordsFrom (noted f b p) (g .min) j) one ∙ from-more (noted f b p) (g .min) (b - g .min)
         ∙ ap (λ (j : ℕ). recordsFrom (noted f b p) (g .min) (b - g .min) ++ recordBytes j (noted f b p j)) two
         ∙ ap (λ (q : List ℕ). recordsFrom (noted f b p) (g .min) (b - g .min) ++ recordBytes b q) (noted-same f b p)
-        ∙ ap (λ (l : List ℕ). l ++ recordBytes b p) (sym (from-agree f (noted f b p) (g .min) (b - g .min) (λ i l u. noted-other f b p i (omega arith))))
+        ∙ ap (λ (l : List ℕ). l ++ recordBytes b p) (sym (from-agree f (noted f b p) (g .min) (b - g .min)
+        (λ i l u. noted-other f b p i (omega arith))))
 
     go : (i : ℕ) (t : Bool) → ltb i b ≡ t → g .min ≤ i → i < b + 1 → length (noted f b p i) ≤ maxPayload
     go i true e l u = rw (← noted-other f b p i (ltb-true i b e)) (h .small i l (ltb-true i b e))

@@ -36,18 +36,21 @@ unfolding insertRow
 insert-front lo x [] h = refl
 insert-front lo x (y ∷ ys) h = simp (le-leb (x .id) (y .id) (omega (arith, h .1 .0)))
 
-insert-place : (lo : ℕ) (xs : List ImageRow) (x : ImageRow) (ys : List ImageRow) → Rising lo (xs ++ (x ∷ ys)) → insertRow x (xs ++ ys) ≡ xs ++ (x ∷ ys)
+insert-place : (lo : ℕ) (xs : List ImageRow) (x : ImageRow) (ys : List ImageRow) → Rising lo (xs ++ (x ∷ ys))
+    → insertRow x (xs ++ ys) ≡ xs ++ (x ∷ ys)
 unfolding insertRow
 insert-place lo [] x ys h = insert-front lo x ys h
 insert-place lo (z ∷ xs) x ys h =
-    simp (lt-leb (x .id) (z .id) (omega (arith, rising-at (z .id + 1) xs x ys (h .1)))) (ap (λ (l : List ImageRow). z ∷ l) (insert-place (z .id + 1) xs x ys (h .1)))
+    simp (lt-leb (x .id) (z .id) (omega (arith, rising-at (z .id + 1) xs x ys (h .1))))
+    (ap (λ (l : List ImageRow). z ∷ l) (insert-place (z .id + 1) xs x ys (h .1)))
 
 pub sort-any : (lo : ℕ) (l t : List ImageRow) → AnyOrder l t → Rising lo t → sortRows l ≡ t
 unfolding sortRows
 sort-any lo [] t o h = sym o
 sort-any lo (x ∷ l) t o h =
     let r : Rising lo (o .before ++ (x ∷ o .behind)) = subst (Rising lo) (o .whole) h in
-    ap (insertRow x) (sort-any lo l (o .before ++ o .behind) (o .others) (rising-less lo (o .before) x (o .behind) r)) ∙ insert-place lo (o .before) x (o .behind) r ∙ sym (o .whole)
+    ap (insertRow x) (sort-any lo l (o .before ++ o .behind) (o .others) (rising-less lo (o .before) x (o .behind) r))
+    ∙ insert-place lo (o .before) x (o .behind) r ∙ sym (o .whole)
 
 pub length-any : (l t : List ImageRow) → AnyOrder l t → length l ≡ length t
 length-any [] t o = sym (ap length o)
@@ -55,7 +58,8 @@ length-any (x ∷ l) t o =
     let e = length-any l (o .before ++ o .behind) (o .others) in
     omega (arith, e, ap length (o .whole), length-append (o .before) (o .behind), length-append (o .before) (x ∷ o .behind))
 
-fit-parts : (k c : ℕ) (xs : List ImageRow) (x : ImageRow) (ys : List ImageRow) → rowsInside k c (xs ++ (x ∷ ys)) ≡ true → (ltb (x .slot) k && leb (x .size) c ≡ true) × (rowsInside k c (xs ++ ys) ≡ true)
+fit-parts : (k c : ℕ) (xs : List ImageRow) (x : ImageRow) (ys : List ImageRow) → rowsInside k c (xs ++ (x ∷ ys)) ≡ true
+    → (ltb (x .slot) k && leb (x .size) c ≡ true) × (rowsInside k c (xs ++ ys) ≡ true)
 unfolding rowsInside
 fit-parts k c [] x ys h = and-both (ltb (x .slot) k && leb (x .size) c) (rowsInside k c ys) h
 fit-parts k c (z ∷ xs) x ys h =
@@ -87,7 +91,8 @@ cons-fresh : (slot : ℕ) (r : ImageRow) (rs : List ImageRow) → FreshRow slot 
 unfolding freshRow
 cons-fresh slot r rs h = simp (ne-eqb slot (r .slot) (λ z. h .here (sym z))) (h .rest)
 
-fresh-parts : (s : ℕ) (xs : List ImageRow) (x : ImageRow) (ys : List ImageRow) → freshRow s (xs ++ (x ∷ ys)) ≡ true → (x .slot ≡ s → ⊥) × (freshRow s (xs ++ ys) ≡ true)
+fresh-parts : (s : ℕ) (xs : List ImageRow) (x : ImageRow) (ys : List ImageRow) → freshRow s (xs ++ (x ∷ ys)) ≡ true
+    → (x .slot ≡ s → ⊥) × (freshRow s (xs ++ ys) ≡ true)
 fresh-parts s [] x ys h = let t = fresh-cons s x ys h in (t .here, t .rest)
 fresh-parts s (z ∷ xs) x ys h =
     let t = fresh-cons s z (xs ++ (x ∷ ys)) h in
@@ -101,18 +106,23 @@ fresh-any s (x ∷ l) t o h =
     let u = fresh-parts s (o .before) x (o .behind) (subst (λ (y : List ImageRow). freshRow s y ≡ true) (o .whole) h) in
     cons-fresh s x l (record { here = u .0; rest = fresh-any s l (o .before ++ o .behind) (o .others) (u .1) })
 
-apart-parts : (xs : List ImageRow) (x : ImageRow) (ys : List ImageRow) → rowsApart (xs ++ (x ∷ ys)) ≡ true → (freshRow (x .slot) (xs ++ ys) ≡ true) × (rowsApart (xs ++ ys) ≡ true)
+apart-parts : (xs : List ImageRow) (x : ImageRow) (ys : List ImageRow) → rowsApart (xs ++ (x ∷ ys)) ≡ true
+    → (freshRow (x .slot) (xs ++ ys) ≡ true) × (rowsApart (xs ++ ys) ≡ true)
 unfolding rowsApart
 apart-parts [] x ys h = and-both (freshRow (x .slot) ys) (rowsApart ys) h
 apart-parts (z ∷ xs) x ys h =
     let t = and-both (freshRow (z .slot) (xs ++ (x ∷ ys))) (rowsApart (xs ++ (x ∷ ys))) h in
     let u = apart-parts xs x ys (t .1) in
-    let v = fresh-parts (z .slot) xs x ys (t .0) in
-    (cons-fresh (x .slot) z (xs ++ ys) (record { here = λ q. v .0 (sym q); rest = u .0 }), both-and (freshRow (z .slot) (xs ++ ys)) (rowsApart (xs ++ ys)) (v .1) (u .1))
+    let v = fresh-parts (z .slot) xs x ys (t .0) in (
+      cons-fresh (x .slot) z (xs ++ ys) (record { here = λ q. v .0 (sym q); rest = u .0 }),
+      both-and (freshRow (z .slot) (xs ++ ys))
+          (rowsApart (xs ++ ys)) (v .1) (u .1),
+    )
 
 pub apart-any : (l t : List ImageRow) → AnyOrder l t → rowsApart t ≡ true → rowsApart l ≡ true
 unfolding rowsApart
 apart-any [] t o h = refl
 apart-any (x ∷ l) t o h =
     let u = apart-parts (o .before) x (o .behind) (subst (λ (y : List ImageRow). rowsApart y ≡ true) (o .whole) h) in
-    both-and (freshRow (x .slot) l) (rowsApart l) (fresh-any (x .slot) l (o .before ++ o .behind) (o .others) (u .0)) (apart-any l (o .before ++ o .behind) (o .others) (u .1))
+    both-and (freshRow (x .slot) l) (rowsApart l) (fresh-any (x .slot) l (o .before ++ o .behind) (o .others) (u .0))
+    (apart-any l (o .before ++ o .behind) (o .others) (u .1))

@@ -44,7 +44,8 @@ delivers-views a area z area′ f rows s e index room h d =
     (record {
       accepts = refl;
       oldest-accepts = ap (λ (o : Pruning). pruneAnswer (logOf a) o .refusal) old;
-      recent-accepts = ap (λ (x : Held). refusalOf x (recent e)) between ∙ ap (λ (o : Pruning). pruneAnswer (logOf (d .older)) o .refusal) new;
+      recent-accepts =
+          ap (λ (x : Held). refusalOf x (recent e)) between ∙ ap (λ (o : Pruning). pruneAnswer (logOf (d .older)) o .refusal) new;
       log-same = sym (ap (λ (x : Held). x .log) after);
       live-start = d .start-is;
       live-end = d .end-is;
@@ -83,10 +84,12 @@ module _ (t : Held) (f : ℕ → List ℕ) (c : Came Any t f) (further : List (L
       (subst (λ (gs : List Segment). AnyOrder rows (rowsFor gs)) own any) enough
 
   -- recovery's outcome
-  pub accepts-held : (s e : ℕ) (rows : List ImageRow) (index : List ℕ) (d : Brings (c .view) (t .area) (later-came .view) (u .area) f rows s e (length index))
+  pub accepts-held : (s e : ℕ) (rows : List ImageRow) (index : List ℕ)
+      (d : Brings (c .view) (t .area) (later-came .view) (u .area) f rows s e (length index))
       → recovering u rows s e index ≡ recovered (d .log) (u .area) (d .words)
   accepts-held s e rows index d =
-      on-view (λ (y : Held). recovering y rows s e index ≡ recovered (d .log) (y .area) (d .words)) u (told f t (appends further)) later-came
+      on-view (λ (y : Held). recovering y rows s e index ≡ recovered (d .log) (y .area) (d .words)) u
+      (told f t (appends further)) later-came
       (d .accepts)
 
   -- what recovery delivers
@@ -96,12 +99,14 @@ module _ (t : Held) (f : ℕ → List ℕ) (c : Came Any t f) (further : List (L
   delivers-held s e rows index above order from to any enough =
       let l = later-came in
       on-view (λ (x : Held). Delivers x u f s e index (recovering u rows s e index)) t f c
-      (on-view (λ (y : Held). Delivers (heldOf (c .view) (t .area)) y f s e index (recovering y rows s e index)) u (told f t (appends further)) l
+      (on-view (λ (y : Held). Delivers (heldOf (c .view) (t .area)) y f s e index (recovering y rows s e index)) u
+      (told f t (appends further)) l
       (delivers-views (c .view) (t .area) (l .view) (u .area) f rows s e index enough (c .holds)
       (brings-held s e rows (length index) above order from to any enough)))
 
 -- demand 3
 pub demand3 : Demand3
 demand3 k c m area calls further s e rows index asked =
-    delivers-held (earlier k c m area calls) (lastUnder (begun k c m area) calls) (runs-keep k c m area calls (asked .new)) further s e rows index
+    delivers-held (earlier k c m area calls) (lastUnder (begun k c m area) calls)
+    (runs-keep k c m area calls (asked .new)) further s e rows index
     (asked .above) (asked .order) (asked .from) (asked .to) (asked .own-rows) (asked .room)

@@ -54,8 +54,13 @@ module _ (t : Held) (f : ℕ → List ℕ) (c : Came Any t f) (further : List (L
       let q : r ≡ recovered (d .log) (u .area) (d .words) = p ∙ is in
       let area : recoveryArea (u .area) r ≡ u .area = ap (recoveryArea (u .area)) q in
       let long : length (recoveryIndex index r) ≡ length index =
-      ap (λ (x : Recovery). length (recoveryIndex index x)) q ∙ words-fit (d .log) (u .area) (d .words) index (4 * idsIn s e) (d .count) enough in
-      let same : recovering (record { log = u .log; area = recoveryArea (u .area) r }) rows s e (recoveryIndex index r) ≡ recovering u rows s e index =
+      ap (λ (x : Recovery). length (recoveryIndex index x)) q
+      ∙ words-fit (d .log) (u .area) (d .words) index (4 * idsIn s e) (d .count) enough in
+      let same : recovering (record {
+        log =
+            u .log;
+        area = recoveryArea (u .area) r;
+      }) rows s e (recoveryIndex index r) ≡ recovering u rows s e index =
       λ i. recoveryOf (u .log .k) (u .log .c) (u .log .m) (area i) rows s e (long i) in
       same-twice u index (d .log) (d .words) r _ q (same ∙ is)
 
@@ -81,11 +86,13 @@ module _ (t : Held) (f : ℕ → List ℕ) (c : Came Any t f) (further : List (L
 
   own-later : AnyOrder rows (rowsFor (z .segs))
   own-later =
-      subst (λ (gs : List Segment). AnyOrder rows (rowsFor gs)) (ap (λ (x : Log). listed x) (later-came t f c further .packed) ∙ listed-log z) any
+      subst (λ (gs : List Segment). AnyOrder rows (rowsFor gs))
+      (ap (λ (x : Log). listed x) (later-came t f c further .packed) ∙ listed-log z) any
 
   -- the first time, against what is held later
   once : Brings z (u .area) z (u .area) g rows s e (length index)
-  once = brings-self z (u .area) g (later-came t f c further .holds) s e above order from-later to-later rows (length index) own-later enough
+  once =
+      brings-self z (u .area) g (later-came t f c further .holds) s e above order from-later to-later rows (length index) own-later enough
 
   once-is : recovering u rows s e index ≡ recovered (once .log) (u .area) (once .words)
   once-is =
@@ -96,18 +103,21 @@ module _ (t : Held) (f : ℕ → List ℕ) (c : Came Any t f) (further : List (L
     -- the second time, from the log that came back
     second : Brings (once .log) (u .area) (once .log) (u .area) g rows′ s e room
     second =
-        brings-self (once .log) (u .area) g (once .log-holds) s e above order (omega (arith, once .start-is)) (omega (arith, once .end-is)) rows′
+        brings-self (once .log) (u .area) g (once .log-holds) s e above order (omega (arith, once .start-is))
+        (omega (arith, once .end-is)) rows′
         room any′ enough′
 
     second-log : second .log ≡ once .log
     second-log =
-        whole-log (once .log) (u .area) g (once .log-holds) (omega (arith, once .end-is)) (once .log) (u .area) rows′ s e room (once .start-is)
+        whole-log (once .log) (u .area) g (once .log-holds) (omega (arith, once .end-is)) (once .log) (u .area) rows′ s e room
+        (once .start-is)
         (once .end-is) second
 
     second-words : second .words ≡ once .words
     second-words = second .same ∙ sym (once .kept) ∙ sym (once .same)
 
-    second-is : recoveryOf (once .log .k) (once .log .c) (once .log .m) (u .area) rows′ s e room ≡ recovered (once .log) (u .area) (once .words)
+    second-is : recoveryOf (once .log .k) (once .log .c) (once .log .m) (u .area) rows′ s e room
+        ≡ recovered (once .log) (u .area) (once .words)
     second-is = second .accepts ∙ (λ i. recovered (second-log i) (u .area) (second-words i))
 
   recovered-twice : (r : Recovery) → r ≡ recovering u rows s e index → (rows′ : List ImageRow)
@@ -140,5 +150,6 @@ recovering-the-recovered k c m area calls further s e rows index asked u is r p 
     subst (λ (x : Held). (r : Recovery) → r ≡ recovering x rows s e index → (rows′ : List ImageRow)
     → AnyOrder rows′ (rowsFor (listed (afterRecovery x r .log)))
     → SameTwice x index r (recovering (afterRecovery x r) rows′ s e (recoveryIndex index r))) (sym is)
-    (recovered-twice (earlier k c m area calls) (lastUnder (begun k c m area) calls) (runs-keep k c m area calls (asked .new)) further s e rows
+    (recovered-twice (earlier k c m area calls) (lastUnder (begun k c m area) calls)
+    (runs-keep k c m area calls (asked .new)) further s e rows
     index (asked .above) (asked .order) (asked .from) (asked .to) (asked .own-rows) (asked .room)) r p rows′ any′

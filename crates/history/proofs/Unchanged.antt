@@ -16,8 +16,10 @@ use Rattle.history.proofs.Theorem.{brings-held, later-came, accepts-hel
 use Rattle.history.proofs.Views.{Brings}
 
 -- two recoveries against the same earlier log bring the same log and the same words
-pub two-same : (a : View) (area : List ℕ) (z z₀ : View) (area′ area₀ : List ℕ) (f : ℕ → List ℕ) (rows rows₀ : List ImageRow) (s e room room₀ : ℕ)
-    (d : Brings a area z area′ f rows s e room) (d₀ : Brings a area z₀ area₀ f rows₀ s e room₀) → (d .log ≡ d₀ .log) × (d .words ≡ d₀ .words)
+pub two-same : (a : View) (area : List ℕ) (z z₀ : View) (area′ area₀ : List ℕ) (f : ℕ → List ℕ) (rows rows₀ : List ImageRow)
+    (s e room room₀ : ℕ)
+    (d : Brings a area z area′ f rows s e room) (d₀ : Brings a area z₀ area₀ f rows₀ s e room₀)
+    → (d .log ≡ d₀ .log) × (d .words ≡ d₀ .words)
 two-same a area z z₀ area′ area₀ f rows rows₀ s e room room₀ d d₀ =
     let first : pruned (d .older) area ≡ pruned (d₀ .older) area = sym (d .first) ∙ d₀ .first in
     let old : d .older ≡ d₀ .older = cc in
@@ -27,14 +29,16 @@ two-same a area z z₀ area′ area₀ f rows rows₀ s e room room₀ d d₀ =
 same-held : (t : Held) (f : ℕ → List ℕ) → Came Any t f → (further : List (List ℕ)) (s e : ℕ) (rows rows₀ : List ImageRow) (index : List ℕ)
     → 0 < s → s ≤ e → t .log .start ≤ s → e ≤ t .log .end → AnyOrder rows (rowsFor (listed (run t (appends further) .log)))
     → AnyOrder rows₀ (rowsFor (listed (t .log))) → 4 * idsIn s e ≤ length index
-    → SameAsEarlier t (run t (appends further)) s e index (recovering t rows₀ s e index) (recovering (run t (appends further)) rows s e index)
+    → SameAsEarlier t (run t (appends further)) s e index (recovering t rows₀ s e index)
+    (recovering (run t (appends further)) rows s e index)
 unfolding run
 same-held t f c further s e rows rows₀ index above order from to any any₀ enough =
     let u : Held = run t (appends further) in
     let d = brings-held t f c further s e rows (length index) above order from to any enough in
     let d₀ = brings-held t f c [] s e rows₀ (length index) above order from to any₀ enough in
     let both =
-    two-same (c .view) (t .area) (later-came t f c further .view) (later-came t f c [] .view) (u .area) (t .area) f rows rows₀ s e (length index)
+    two-same (c .view) (t .area) (later-came t f c further .view) (later-came t f c [] .view) (u .area) (t .area) f rows rows₀ s e
+    (length index)
     (length index) d d₀ in
     let is = accepts-held t f c further s e rows index d in
     let is₀ = accepts-held t f c [] s e rows₀ index d₀ in
@@ -52,5 +56,6 @@ same-held t f c further s e rows rows₀ index above order from to any any₀ en
 -- the later data changes nothing
 pub later-changes-nothing : LaterChangesNothing
 later-changes-nothing k c m area calls further s e rows index asked rows₀ any₀ =
-    same-held (earlier k c m area calls) (lastUnder (begun k c m area) calls) (runs-keep k c m area calls (asked .new)) further s e rows rows₀
+    same-held (earlier k c m area calls) (lastUnder (begun k c m area) calls)
+    (runs-keep k c m area calls (asked .new)) further s e rows rows₀
     index (asked .above) (asked .order) (asked .from) (asked .to) (asked .own-rows) any₀ (asked .room)

@@ -27,7 +27,18 @@ use Rattle.history.proofs.Invariant.{Holds, some-live}
 use Rattle.history.proofs.Kept.{Cutting, cut-all}
 use Rattle.history.proofs.Later.{After, first-same, Grows, ended-grows}
 use Rattle.history.proofs.OwnRows.{has-good, rising-rows, length-rows, inside-rows, apart-rows, lowest-rows, next-rows}
-use Rattle.history.proofs.Prunes.{Inner, live-low, oldest-holds, prune-inner, New, closedBy, at-new, endedView, recent-is, ended-holds}
+use Rattle.history.proofs.Prunes.{
+  Inner,
+  live-low,
+  oldest-holds,
+  prune-inner,
+  New,
+  closedBy,
+  at-new,
+  endedView,
+  recent-is,
+  ended-holds,
+}
 use Rattle.history.proofs.Records.{from-agree, from-front, splice-whole}
 use Rattle.history.proofs.Runs.{log-fitting}
 use Rattle.history.proofs.Same.{chain-same, old-rows}
@@ -39,7 +50,8 @@ use Rattle.recovery.specs.Recovery as R
 use Rattle.recovery_walk.specs.Images as Walk
 
 -- what recovering s to e from the later log gives, against the earlier one; f has what was last appended up to it
-pub record Brings (a : View) (area : List ℕ) (z : View) (area′ : List ℕ) (f : ℕ → List ℕ) (rows : List ImageRow) (s e room : ℕ) : Type 0 where
+pub record Brings (a : View) (area : List ℕ) (z : View) (area′ : List ℕ) (f : ℕ → List ℕ) (rows : List ImageRow)
+    (s e room : ℕ) : Type 0 where
   pub log : View
   pub words : List ℕ
   -- it is accepted, and writes no byte of the area
@@ -113,7 +125,8 @@ module _ (a : View) (area : List ℕ) (z : View) (area′ : List ℕ) (f f′ : 
 
   cutting : Cutting e (dropNew e (dropOld s (a .segs))) (keptOf s e (z .segs)) (z .segs)
   cutting =
-      cut-all Gt Gu s e (a .segs) (z .segs) (h .i) (h .b) (h .j) (a .end + 1) (h′ .i) (h′ .j) (z .end + 1) low order (omega arith) (h .chain)
+      cut-all Gt Gu s e (a .segs) (z .segs) (h .i) (h .b) (h .j) (a .end + 1) (h′ .i) (h′ .j) (z .end + 1) low order (omega arith)
+      (h .chain)
       (subst (λ (x : ℕ). Chain Gu (h′ .i) x (z .segs) (h′ .j) (z .end + 1)) (sym same-first) (h′ .chain)) (w .grows)
 
   -- the log that comes back
@@ -128,7 +141,8 @@ module _ (a : View) (area : List ℕ) (z : View) (area′ : List ℕ) (f f′ : 
 
   same-front : cut-found .hs ≡ cutting .hs
   same-front =
-      sym (front-snoc (cut-found .hs) (cut-found .g)) ∙ ap (λ (l : List Segment). frontOf l) same-kept ∙ front-snoc (cutting .hs) (cutting .g)
+      sym (front-snoc (cut-found .hs) (cut-found .g)) ∙ ap (λ (l : List Segment). frontOf l) same-kept
+      ∙ front-snoc (cutting .hs) (cutting .g)
 
   same-head : cut-found .g ≡ cutting .g
   same-head =
@@ -200,9 +214,11 @@ module _ (a : View) (area : List ℕ) (z : View) (area′ : List ℕ) (f f′ : 
       rows-through area f (a .k) (a .c) s e order (a .segs) (h .i) (h .b) (h .j) (a .end + 1) startOf [] (h .low) (h .chain)
       (start-seen s e (h .b) order (h .low) low)
       ∙ sym (old-rows s e area f (a .k) (a .c) order Gt (a .segs) (h .i) (h .b) (h .j) (a .end + 1) (h .chain))
-      ∙ chain-same s e Gl Gt area area f f (log .k) (log .c) (a .k) (a .c) order (log .segs) (dropOld s (a .segs)) (lh .i) (lh .b) (lh .j) (e + 1)
+      ∙ chain-same s e Gl Gt area area f f (log .k) (log .c) (a .k) (a .c) order (log .segs) (dropOld s (a .segs)) (lh .i) (lh .b) (lh .j)
+      (e + 1)
       (old-holds .i) (old-holds .b) (old-holds .j) (a .end + 1)
-      (first-same Gl Gt (log .segs) (dropOld s (a .segs)) (lh .i) (lh .b) (lh .j) (e + 1) (old-holds .i) (old-holds .b) (old-holds .j) (a .end + 1)
+      (first-same Gl Gt (log .segs) (dropOld s (a .segs)) (lh .i) (lh .b) (lh .j) (e + 1) (old-holds .i) (old-holds .b) (old-holds .j)
+      (a .end + 1)
       some-kept grown (lh .chain) (old-holds .chain)) (omega arith) (lh .chain) (old-holds .chain) grown (λ i l. refl)
       ∙ sym (rows-through area f (log .k) (log .c) s e order (log .segs) (lh .i) (lh .b) (lh .j) (e + 1) startOf [] (lh .low) (lh .chain)
       (start-seen s e (lh .b) order (lh .low) lower))

@@ -24,7 +24,8 @@ use Rattle.recovery_walk.specs.declared.Step.{Step}
 use Rattle.recovery_walk.specs.declared.Step.the-variants.{Next, Fault}
 
 -- a step that goes on
-pub step-next : (img : List ℕ) (s e : ℕ) (c : Scan) (len id : ℕ) → headerAt img (c .pos) ≡ Header (header len id) → followsOf (c .last) id ≡ true
+pub step-next : (img : List ℕ) (s e : ℕ) (c : Scan) (len id : ℕ) → headerAt img (c .pos) ≡ Header (header len id)
+    → followsOf (c .last) id ≡ true
     → cutOf (length img) (c .pos) s e len id ≡ false → recordStep img s e c ≡ Next (advancedOf c s e len id)
 unfolding recordStep afterHeader
 step-next img s e c len id read f g = ap (afterHeader img s e c) read ∙ simp (f, g)
@@ -96,7 +97,8 @@ module _ (img : List ℕ) (s e : ℕ) where
       more : (c d : Scan) (a : Step) → recordTurn img s e c ≡ again d → P d a → P c a
       more c d a t p = go (moreOf c (length img)) (recordStep img s e c) refl refl t
         where
-          go : (b : Bool) (o : Step) → moreOf c (length img) ≡ b → recordStep img s e c ≡ o → pick b (route o) (stop (Next c)) ≡ again d → P c a
+          go : (b : Bool) (o : Step) → moreOf c (length img) ≡ b → recordStep img s e c ≡ o → pick b (route o) (stop (Next c)) ≡ again d
+              → P c a
           go false o l m q = absurd (let y : _≡_ {A = ℕ} 0 1 = cc in omega arith)
           go true (Fault n) l m q = absurd (let y : _≡_ {A = ℕ} 0 1 = cc in omega arith)
           go true (Next x) l m q = let same : x ≡ d = cc in next c d a l (rw same at m) p
@@ -104,7 +106,8 @@ module _ (img : List ℕ) (s e : ℕ) where
       last : (c : Scan) (a : Step) → recordTurn img s e c ≡ stop a → P c a
       last c a t = go (moreOf c (length img)) (recordStep img s e c) refl refl t
         where
-          go : (b : Bool) (o : Step) → moreOf c (length img) ≡ b → recordStep img s e c ≡ o → pick b (route o) (stop (Next c)) ≡ stop a → P c a
+          go : (b : Bool) (o : Step) → moreOf c (length img) ≡ b → recordStep img s e c ≡ o → pick b (route o) (stop (Next c)) ≡ stop a
+              → P c a
           go false o l m q = let same : Next c ≡ a = cc in rw same at (end c l)
           go true (Fault n) l m q = let same : Fault n ≡ a = cc in rw same at (fault c n l m)
           go true (Next x) l m q = absurd (let y : _≡_ {A = ℕ} 0 1 = cc in omega arith)

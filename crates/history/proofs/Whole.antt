@@ -57,7 +57,8 @@ module _ (a : View) (area : List ℕ) (f : ℕ → List ℕ) (h : Holds a area f
 
     -- the live range of a log that has a segment
     pub start-above : 0 < a .start
-    start-above = omega (arith, h .low, live-low P (a .segs) (h .i) (h .b) (a .start) (a .end) (h .j) (a .end + 1) some (h .chain) (h .live))
+    start-above =
+        omega (arith, h .low, live-low P (a .segs) (h .i) (h .b) (a .start) (a .end) (h .j) (a .end + 1) some (h .chain) (h .live))
 
     pub start-order : a .start ≤ a .end
     start-order = under (a .segs) some (h .chain) (h .live)
@@ -91,11 +92,11 @@ module _ (a : View) (area : List ℕ) (f : ℕ → List ℕ) (h : Holds a area f
         let same : closedBy f (t .g) (a .end) ≡ t .g =
         λ i. record { id = t .g .id; slot = t .g .slot; size = long i; min = t .g .min; max = sym max i } in
         prune-inner a area (a .end) _ (holds-fits a area f h) w ∙ recent-is a area f (a .end) h w
-        ∙ ap (λ (g : Segment). pruned (record { k = a .k; c = a .c; m = a .m; start = a .start; end = a .end; segs = t .hs ++ (g ∷ []) }) area)
-        same ∙ ap (λ (gs : List Segment). pruned (startedAt a (a .start) gs) area) split
+        ∙ ap (λ (g : Segment). pruned (startedAt a (a .start) (t .hs ++ (g ∷ []))) area) same ∙ ap (λ (gs : List Segment). pruned (startedAt a (a .start) gs) area) split
 
   -- recovering from a log's own images, with nothing appended since
-  pub brings-self : (s e : ℕ) → 0 < s → s ≤ e → a .start ≤ s → e ≤ a .end → (rows : List ImageRow) (room : ℕ) → AnyOrder rows (rowsFor (a .segs))
+  pub brings-self : (s e : ℕ) → 0 < s → s ≤ e → a .start ≤ s → e ≤ a .end → (rows : List ImageRow) (room : ℕ)
+      → AnyOrder rows (rowsFor (a .segs))
       → 4 * idsIn s e ≤ room → Brings a area a area f rows s e room
   brings-self s e above order from to rows room any enough =
       brings a area a area f f h h (after-refl a f) s e above order from to rows room any enough
@@ -116,7 +117,8 @@ module _ (a : View) (area : List ℕ) (f : ℕ → List ℕ) (h : Holds a area f
       → recoveryAnswer (recovering (heldOf a area) rows (a .start) (a .end) index)
       ≡ record { refusal = 0; rows = idsIn (a .start) (a .end); log = logOf a }
   whole-some live rows any index room =
-      let d = brings-self (a .start) (a .end) (start-above live) (start-order live) (omega arith) (omega arith) rows (length index) any room in
+      let d = brings-self (a .start) (a .end) (start-above live) (start-order live) (omega arith) (omega arith) rows
+      (length index) any room in
       let count : length (d .words) / 4 ≡ idsIn (a .start) (a .end) = ap (λ (n : ℕ). n / 4) (d .count) ∙ omega arith in
       let log : logOf (d .log) ≡ logOf a = ap logOf (whole-log live a area rows (a .start) (a .end) (length index) refl refl d) in
       ap recoveryAnswer (d .accepts) ∙ (λ i. record { refusal = 0; rows = count i; log = log i })
@@ -144,7 +146,8 @@ recover-empty k c m area room sizes all = simp (sizes, eq-eqb (length area) (k *
 
 whole-none : (k c m : ℕ) (area : List ℕ) → sizesOf k c m ≡ true → length area ≡ k * c → (rows : List ImageRow) → AnyOrder rows []
     → (index : List ℕ)
-    → recoveryAnswer (recovering (heldOf (emptyOf k c m) area) rows 0 0 index) ≡ record { refusal = 0; rows = 0; log = logOf (emptyOf k c m) }
+    → recoveryAnswer (recovering (heldOf (emptyOf k c m) area) rows 0 0 index)
+    ≡ record { refusal = 0; rows = 0; log = logOf (emptyOf k c m) }
 whole-none k c m area sizes all rows any index =
     ap (λ (l : List ImageRow). recoveryAnswer (recovering (heldOf (emptyOf k c m) area) l 0 0 index)) (no-rows rows any)
     ∙ ap recoveryAnswer (recover-empty k c m area (length index) sizes all)
@@ -154,7 +157,8 @@ whole-none k c m area sizes all rows any index =
 abbrev GivesBack : Held → Type 0
 GivesBack t =
     (rows : List ImageRow) → AnyOrder rows (rowsFor (listed (t .log))) → (index : List ℕ) → 4 * liveCount (t .log) ≤ length index
-    → recoveryAnswer (recovering t rows (t .log .start) (t .log .end) index) ≡ record { refusal = 0; rows = liveCount (t .log); log = t .log }
+    → recoveryAnswer (recovering t rows (t .log .start) (t .log .end) index)
+    ≡ record { refusal = 0; rows = liveCount (t .log); log = t .log }
 
 whole-view : (a : View) (area : List ℕ) (f : ℕ → List ℕ) → Holds a area f → GivesBack (heldOf a area)
 whole-view a area f h =
