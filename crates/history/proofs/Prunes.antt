@@ -1,0 +1,312 @@
+-- The prunes keep the invariant, and prune recent always finds its cut; refused, they answer 8 or 9.
+-- Assumes nothing.
+use mathlib.Core.Bool.{not, false, true, Bool}
+use mathlib.Core.List.{List, [], _∷_, _++_, append-assoc}
+use mathlib.Core.Path.{sym, ap, _∙_, _≡_, refl, subst}
+use Prim.Native.Nat.{ℕ, _≤_, _<_, _-_, min, _+_, _*_}
+use native.Mathlib.Omega.{arith}
+use lib.Dec.{eqb, ltb}
+use lib.ListN.{length, drop, take}
+use lib.Seq.{take-take}
+use borrow.Author.Tests.{eqb-false, ltb-false, ne-eqb, le-ltb, ltb-true, lt-ltb}
+use Rattle.lists.proofs.Cases.{pick-either}
+use Rattle.seglog.proofs.Bools.{clash, and-both, both-and}
+use Rattle.seglog.proofs.Slots.{fresh-cons, cons-fresh, snoc-apart, apart-snoc}
+use Rattle.seglog.proofs.View.{front-snoc, head-snoc}
+use Rattle.seglog.specs.Log.{View, fitsOf, apartOf, freshIn, frontOf, headOf}
+use Rattle.seglog.specs.declared.Segment.{Segment}
+use Rattle.seglog_prune.specs.Prune.{
+  Pruning,
+  refused,
+  pruned,
+  pruneOf,
+  dropOld,
+  startedAt,
+  pruneOldestOf,
+  dropNew,
+  keepAt,
+  cutOff,
+  findCut,
+  imageIn,
+  cutAt,
+  pruneRecentOf,
+}
+use Rattle.history.specs.Recorded.{recordsFrom}
+use Rattle.history.proofs.Chain.{Chain, chain-join}
+use Rattle.history.proofs.Cuts.{cut-records}
+use Rattle.history.proofs.Invariant.{Holds, empty-holds, Live}
+use Rattle.history.proofs.Records.{from-front, splice-whole}
+use Rattle.history.proofs.Shape.{holds-fits}
+use Rattle.history.proofs.Slots.{Stored}
+
+-- what a prune's outcome keeps: a refusal is 8 or 9
+abbrev pub PruneKeeps : (ℕ → List ℕ) → Pruning → Type 0
+PruneKeeps f (refused n) = (8 ≤ n) × (n ≤ 9)
+PruneKeeps f (pruned a area) = Holds a area f
+
+-- the tests that lead past the easy outcomes and 8 and 9
+pub record Inner (a : View) (n : ℕ) : Type 0 where
+  pub some : 0 < length (a .segs)
+  pub above : 0 < n
+  pub upper : n ≤ a .end
+  pub lower : a .start ≤ n
+
+prune-keeps : (a : View) (area : List ℕ) (f : ℕ → List ℕ) (n : ℕ) (rest : Pruning) → Holds a area f → (Inner a n → PruneKeeps f rest)
+    → PruneKeeps f (pruneOf a area n rest)
+unfolding pruneOf
+prune-keeps a area f n rest h k =
+    pick-either (PruneKeeps f) (not (fitsOf a area)) (refused 2) _ (λ q. clash (sym (ap not (holds-fits a area f h)) ∙ q))
+    (λ q2. pick-either (PruneKeeps f) (eqb n 0) _ _ (λ q. empty-holds (a .k) (a .c) (a .m) area f (h .sizes) (h .all))
+    (λ q0. pick-either (PruneKeeps f) (eqb (length (a .segs)) 0) _ _ (λ q. h)
+    (λ q1. pick-either (PruneKeeps f) (ltb (a .end) n) (refused 8) _ (λ q. (omega arith, omega arith))
+    (λ q8. pick-either (PruneKeeps f) (ltb n (a .start)) (refused 9) _ (λ q. (omega arith, omega arith))
+    (λ q9. k (record {
+      some = omega (arith, eqb-false (length (a .segs)) 0 q1);
+      above = omega (arith, eqb-false n 0 q0);
+      upper = ltb-false (a .end) n q8;
+      lower = ltb-false n (a .start) q9;
+    }))))))
+
+-- past the tests, the rest
+pub prune-inner : (a : View) (area : List ℕ) (n : ℕ) (rest : Pruning) → fitsOf a area ≡ true → Inner a n → pruneOf a area n rest ≡ rest
+unfolding pruneOf
+prune-inner a area n rest h w =
+    let above = w .above in
+    let some = w .some in
+    simp (
+      h,
+      ne-eqb n 0 (λ z. omega arith),
+      ne-eqb (length (a .segs)) 0 (λ z. omega arith),
+      le-ltb (a .end) n (w .upper),
+      le-ltb n (a .start) (w .lower),
+    )
+
+-- ---- oldest
+
+pub record Old (P : Segment → Type 0) (i b n j c : ℕ) (gs : List Segment) : Type 0 where
+  pub i′ : ℕ
+  pub b′ : ℕ
+  pub first : i ≤ i′
+  pub low : b ≤ b′
+  pub chain : Chain P i′ b′ gs j c
+  pub apart : apartOf gs ≡ true
+  pub live : (e : ℕ) → Live n e j gs
+
+pub old : (P : Segment → Type 0) (gs : List Segment) (i b n j c : ℕ) → 0 < length gs → b ≤ n → n < c → Chain P i b gs j c
+    → apartOf gs ≡ true → Old P i b n j c (dropOld n gs)
+unfolding dropOld apartOf
+old P [] i b n j c s l u h p = absurd (omega arith)
+old P (g ∷ []) i b n j c s l u h p =
+    let inside : (e : ℕ) → Live n e j (g ∷ []) = λ e. (omega (arith, h .0 .min), omega (arith, h .1 .1)) in
+    record { i′ = i; b′ = b; first = omega arith; low = omega arith; chain = h; apart = p; live = inside }
+old P (g ∷ x ∷ gs) i b n j c s l u h p =
+    pick-either (Old P i b n j c) (ltb (g .max) n) (dropOld n (x ∷ gs)) (g ∷ x ∷ gs)
+    (λ q. let t = old P (x ∷ gs) (i + 1) (g .max + 1) n j c (omega arith) (omega (arith, ltb-true (g .max) n q)) u (h .1)
+    (and-both (freshIn (g .slot) (x ∷ gs)) (apartOf (x ∷ gs)) p .1) in
+    record {
+      i′ = t .i′;
+      b′ = t .b′;
+      first = omega (arith, t .first);
+      low = omega (arith, t .low, h .0 .order);
+      chain = t .chain;
+      apart = t .apart;
+      live = t .live;
+    })
+    (λ q. let inside : (e : ℕ) → Live n e j (g ∷ x ∷ gs) = λ e. (omega (arith, h .0 .min), ltb-false (g .max) n q) in
+    record { i′ = i; b′ = b; first = omega arith; low = omega arith; chain = h; apart = p; live = inside })
+
+pub live-low : (P : Segment → Type 0) (gs : List Segment) (i b s e j c : ℕ) → 0 < length gs → Chain P i b gs j c → Live s e j gs → b ≤ s
+live-low P [] i b s e j c l h v = absurd (omega arith)
+live-low P (g ∷ gs) i b s e j c l h v = omega (arith, h .0 .min, v .0)
+
+pub oldest-holds : (a : View) (area : List ℕ) (f : ℕ → List ℕ) (n : ℕ) → Holds a area f → Inner a n
+    → Holds (startedAt a n (dropOld n (a .segs))) area f
+oldest-holds a area f n h w =
+    let P : Segment → Type 0 = Stored area f (a .k) (a .c) in
+    let l = live-low P (a .segs) (h .i) (h .b) (a .start) (a .end) (h .j) (a .end + 1) (w .some) (h .chain) (h .live) in
+    let o = old P (a .segs) (h .i) (h .b) n (h .j) (a .end + 1) (w .some) (omega (arith, l, w .lower)) (omega (arith, w .upper)) (h .chain)
+    (h .apart) in
+    record {
+      sizes = h .sizes;
+      all = h .all;
+      top = h .top;
+      i = o .i′;
+      b = o .b′;
+      j = h .j;
+      first = omega (arith, h .first, o .first);
+      low = omega (arith, h .low, o .low);
+      chain = o .chain;
+      apart = o .apart;
+      live = o .live (a .end);
+    }
+
+-- prune oldest keeps the invariant
+pub oldest-keeps : (a : View) (area : List ℕ) (f : ℕ → List ℕ) (n : ℕ) → Holds a area f → PruneKeeps f (pruneOldestOf a area n)
+unfolding pruneOldestOf
+oldest-keeps a area f n h =
+    prune-keeps a area f n (pruned (startedAt a n (dropOld n (a .segs))) area) h (λ w. oldest-holds a area f n h w)
+
+-- ---- recent
+
+pub new-none : (P : Segment → Type 0) (gs : List Segment) (i b n j c : ℕ) → n < b → Chain P i b gs j c → dropNew n gs ≡ []
+unfolding dropNew
+new-none P [] i b n j c l h = refl
+new-none P (g ∷ gs) i b n j c l h =
+    ap (keepAt n g) (new-none P gs (i + 1) (g .max + 1) n j c (omega (arith, h .0 .order)) (h .1))
+    ∙ simp (lt-ltb n (g .min) (omega (arith, h .0 .min)))
+
+pub keep-cons : (n : ℕ) (g : Segment) (hs : List Segment) (x : Segment) → keepAt n g (hs ++ (x ∷ [])) ≡ g ∷ (hs ++ (x ∷ []))
+keep-cons n g [] x = refl
+keep-cons n g (h ∷ hs) x = refl
+
+pub record New (P : Segment → Type 0) (i b n : ℕ) (gs : List Segment) : Type 0 where
+  pub hs : List Segment
+  pub g : Segment
+  pub rest : List Segment
+  pub is : gs ≡ hs ++ (g ∷ rest)
+  pub kept : dropNew n gs ≡ hs ++ (g ∷ [])
+  pub left : Chain P i b hs (g .id) (g .min)
+  pub good : P g
+  pub low : g .min ≤ n
+  pub high : n ≤ g .max
+
+pub new : (P : Segment → Type 0) (gs : List Segment) (i b n j c : ℕ) → b ≤ n → n < c → Chain P i b gs j c → New P i b n gs
+unfolding dropNew
+new P [] i b n j c l u h = absurd (omega (arith, h .1))
+new P (g ∷ gs) i b n j c l u h = go (ltb (g .max) n) refl (λ q. new P gs (i + 1) (g .max + 1) n j c q u (h .1))
+  where
+    go : (t : Bool) → ltb (g .max) n ≡ t → (g .max + 1 ≤ n → New P (i + 1) (g .max + 1) n gs) → New P i b n (g ∷ gs)
+    go true q ih =
+        let t = ih (omega (arith, ltb-true (g .max) n q)) in
+        record {
+          hs = g ∷ t .hs;
+          g = t .g;
+          rest = t .rest;
+          is = ap (λ (y : List Segment). g ∷ y) (t .is);
+          kept = ap (keepAt n g) (t .kept) ∙ keep-cons n g (t .hs) (t .g);
+          left = (h .0, t .left);
+          good = t .good;
+          low = t .low;
+          high = t .high;
+        }
+    go false q ih =
+        record {
+          hs = [];
+          g = g;
+          rest = gs;
+          is = refl;
+          kept =
+              ap (keepAt n g) (new-none P gs (i + 1) (g .max + 1) n j c (omega (arith, ltb-false (g .max) n q)) (h .1))
+              ∙ simp (le-ltb n (g .min) (omega (arith, h .0 .min)));
+          left = (sym (h .0 .id), sym (h .0 .min));
+          good = h .0 .good;
+          low = omega (arith, h .0 .min);
+          high = ltb-false (g .max) n q;
+        }
+
+fresh-front : (s : ℕ) (hs gs : List Segment) → freshIn s (hs ++ gs) ≡ true → freshIn s hs ≡ true
+unfolding freshIn
+fresh-front s [] gs h = refl
+fresh-front s (g ∷ hs) gs h =
+    let t = fresh-cons s g (hs ++ gs) h in cons-fresh s g hs (record { here = t .here; rest = fresh-front s hs gs (t .rest) })
+
+apart-front : (hs gs : List Segment) → apartOf (hs ++ gs) ≡ true → apartOf hs ≡ true
+unfolding apartOf
+apart-front [] gs h = refl
+apart-front (g ∷ hs) gs h =
+    let t = and-both (freshIn (g .slot) (hs ++ gs)) (apartOf (hs ++ gs)) h in both-and (freshIn (g .slot) hs) (apartOf hs)
+    (fresh-front (g .slot) hs gs (t .0)) (apart-front hs gs (t .1))
+
+-- g ends with the record n, whose payloads f has
+abbrev pub closedBy : (ℕ → List ℕ) → Segment → ℕ → Segment
+closedBy f g n = record { id = g .id; slot = g .slot; size = length (recordsFrom f (g .min) (n + 1 - g .min)); min = g .min; max = n }
+
+abbrev pub endedView : View → (ℕ → List ℕ) → ℕ → List Segment → Segment → View
+endedView a f n hs g = record { k = a .k; c = a .c; m = a .m; start = a .start; end = n; segs = hs ++ (closedBy f g n ∷ []) }
+
+live-ended : (hs rest : List Segment) (g y : Segment) (s e j e′ j′ : ℕ) → Live s e j (hs ++ (g ∷ rest)) → y .min ≡ g .min → s ≤ y .max
+    → Live s e′ j′ (hs ++ (y ∷ []))
+live-ended [] rest g y s e j e′ j′ h q l = (omega (arith, h .0), omega arith)
+live-ended (x ∷ hs) rest g y s e j e′ j′ h q l = (h .0, h .1)
+
+module _ (a : View) (area : List ℕ) (f : ℕ → List ℕ) (n : ℕ) (h : Holds a area f) (w : Inner a n) where
+  abbrev P : Segment → Type 0
+  P = Stored area f (a .k) (a .c)
+
+  pub at-new : New P (h .i) (h .b) n (a .segs)
+  at-new =
+      new P (a .segs) (h .i) (h .b) n (h .j) (a .end + 1)
+      (omega (arith, live-low P (a .segs) (h .i) (h .b) (a .start) (a .end) (h .j) (a .end + 1) (w .some) (h .chain) (h .live), w .lower))
+      (omega (arith, w .upper)) (h .chain)
+
+  -- the cut is found, and nothing is missing
+  pub ended : (hs : List Segment) (g : Segment) → P g → g .min ≤ n → n ≤ g .max
+      → cutOff a area n hs g (findCut (imageIn area (a .c) g) n 0) ≡ pruned (endedView a f n hs g) area
+  ended hs g good low high =
+      let fit = from-front f (g .min) (n + 1 - g .min) (g .max + 1 - g .min) (omega arith) in
+      let found : findCut (imageIn area (a .c) g) n 0 ≡ cutAt (length (recordsFrom f (g .min) (n + 1 - g .min))) =
+      ap (λ (l : List ℕ). findCut l n 0) (good .image)
+      ∙ cut-records f n (g .max + 1 - g .min) [] (g .min) 0 refl refl
+      (record { small = λ i l u. good .small i l (omega arith); ids = omega (arith, good .top) }) low (omega arith)
+      ∙ ap cutAt (omega arith) in
+      ap (cutOff a area n hs g) found
+      ∙ ap (pruned (endedView a f n hs g)) (splice-whole (g .slot * a .c + g .size) (length (recordsFrom f (g .min) (n + 1 - g .min)))
+      (g .size) area (omega (arith, fit .0, good .long)))
+
+  ended-good : (g : Segment) → P g → g .min ≤ n → n ≤ g .max → P (closedBy f g n)
+  ended-good g good low high =
+      let fit = from-front f (g .min) (n + 1 - g .min) (g .max + 1 - g .min) (omega arith) in
+      record {
+        slot = good .slot;
+        room = omega (arith, fit .0, good .long, good .room);
+        id = good .id;
+        top = omega (arith, good .top);
+        small = λ i l u. good .small i l (omega arith);
+        long = refl;
+        image =
+            sym (take-take (length (recordsFrom f (g .min) (n + 1 - g .min))) (g .size) (drop (g .slot * a .c) area)
+            (omega (arith, fit .0, good .long)))
+            ∙ ap (take (length (recordsFrom f (g .min) (n + 1 - g .min)))) (good .image) ∙ fit .1;
+      }
+
+  pub ended-holds : Holds (endedView a f n (at-new .hs) (at-new .g)) area f
+  ended-holds =
+      let t = at-new in
+      let split : a .segs ≡ (t .hs ++ (t .g ∷ [])) ++ t .rest = t .is ∙ sym (append-assoc (t .hs) (t .g ∷ []) (t .rest)) in
+      let slots = snoc-apart (t .hs) (t .g) (apart-front (t .hs ++ (t .g ∷ [])) (t .rest)
+      (subst (λ (l : List Segment). apartOf l ≡ true) split (h .apart))) in
+      record {
+        sizes = h .sizes;
+        all = h .all;
+        top = omega (arith, h .top, w .upper);
+        i = h .i;
+        b = h .b;
+        j = t .g .id + 1;
+        first = h .first;
+        low = h .low;
+        chain = chain-join P (t .hs) (closedBy f (t .g) n ∷ []) (h .i) (h .b) (t .g .id) (t .g .min) (t .g .id + 1) (n + 1) (t .left)
+            (record { id = refl; min = refl; order = t .low; good = ended-good (t .g) (t .good) (t .low) (t .high) }, (refl, refl));
+        apart = apart-snoc (t .hs) (closedBy f (t .g) n) (slots .0) (slots .1);
+        live =
+            live-ended (t .hs) (t .rest) (t .g) (closedBy f (t .g) n) (a .start) (a .end) (h .j) n (t .g .id + 1)
+            (subst (λ (l : List Segment). Live (a .start) (a .end) (h .j) l) (t .is) (h .live)) refl (w .lower);
+      }
+
+  -- prune recent, past its tests, is the log cut there, with the area as it was
+  pub recent-is : cutOff a area n (frontOf (dropNew n (a .segs))) (headOf (dropNew n (a .segs)))
+      (findCut (imageIn area (a .c) (headOf (dropNew n (a .segs)))) n 0)
+      ≡ pruned (endedView a f n (at-new .hs) (at-new .g)) area
+  recent-is =
+      let t = at-new in
+      let front : frontOf (dropNew n (a .segs)) ≡ t .hs = ap (λ (l : List Segment). frontOf l) (t .kept) ∙ front-snoc (t .hs) (t .g) in
+      let head : headOf (dropNew n (a .segs)) ≡ t .g = ap (λ (l : List Segment). headOf l) (t .kept) ∙ head-snoc (t .hs) (t .g) in
+      ap (λ (l : List Segment). cutOff a area n l (headOf (dropNew n (a .segs)))
+      (findCut (imageIn area (a .c) (headOf (dropNew n (a .segs)))) n 0)) front
+      ∙ ap (λ (y : Segment). cutOff a area n (t .hs) y (findCut (imageIn area (a .c) y) n 0)) head
+      ∙ ended (t .hs) (t .g) (t .good) (t .low) (t .high)
+
+-- prune recent keeps the invariant
+pub recent-keeps : (a : View) (area : List ℕ) (f : ℕ → List ℕ) (n : ℕ) → Holds a area f → PruneKeeps f (pruneRecentOf a area n)
+unfolding pruneRecentOf
+recent-keeps a area f n h =
+    prune-keeps a area f n _ h (λ w. subst (PruneKeeps f) (sym (recent-is a area f n h w)) (ended-holds a area f n h w))

@@ -1,0 +1,351 @@
+-- Demand 3 for logs by their listed segments: a log z over area′ that came from a over area by appends alone.
+-- Assumes nothing.
+use mathlib.Core.Bool.{true, false}
+use mathlib.Core.List.{List, _++_, _∷_, []}
+use mathlib.Core.Path.{_≡_, subst, sym, _∙_, ap, refl}
+use Prim.Native.Nat.{ℕ, _*_, _-_, _<_, _≤_, _+_, min}
+use native.Mathlib.Omega.{arith}
+use lib.ListN.{length}
+use borrow.Author.Tests.{lt-ltb, le-ltb, le-leb, eq-eqb, ne-eqb}
+use Rattle.seglog.proofs.View.{front-snoc, head-snoc}
+use Rattle.seglog.specs.Log.{View, logOf, frontOf, headOf, fittingOf}
+use Rattle.seglog.specs.New.{roomyOf}
+use Rattle.seglog.specs.declared.Segment.{Segment}
+use Rattle.seglog_prune.specs.Prune.{pruneOldestOf, pruned, pruneRecentOf, startedAt, dropOld, dropNew}
+use Rattle.recovery_walk.specs.Images.{startOf, images}
+use Rattle.recovery_walk.specs.Rows.{rowsAll, penOf}
+use Rattle.recovery_walk.specs.Scan.{scanOf, judged}
+use Rattle.recovery_walk.specs.declared.ImageRow.{ImageRow}
+use Rattle.recovery.specs.ImageRows.{sortRows, rowsFit, lowestZero, oneApart}
+use Rattle.recovery.specs.Recovery.{recoveryOf, recovered, keptOf, closedAt, outcomeOf, oneZero}
+use Rattle.history.specs.Demand.{idsIn, rowsFor, AnyOrder}
+use Rattle.history.specs.Recorded.{recordsFrom}
+use Rattle.history.proofs.Chain.{Chain}
+use Rattle.history.proofs.CountLaws.{all-counts}
+use Rattle.history.proofs.Deliver.{delivered, items, deliver-chain, live-items, items-agree}
+use Rattle.history.proofs.Invariant.{Holds, some-live}
+use Rattle.history.proofs.Kept.{Cutting, cut-all}
+use Rattle.history.proofs.Later.{After, first-same, Grows, ended-grows}
+use Rattle.history.proofs.OwnRows.{has-good, rising-rows, length-rows, inside-rows, apart-rows, lowest-rows, next-rows}
+use Rattle.history.proofs.Prunes.{
+  Inner,
+  live-low,
+  oldest-holds,
+  prune-inner,
+  New,
+  closedBy,
+  at-new,
+  endedView,
+  recent-is,
+  ended-holds,
+}
+use Rattle.history.proofs.Records.{from-agree, from-front, splice-whole}
+use Rattle.history.proofs.Runs.{log-fitting}
+use Rattle.history.proofs.Same.{chain-same, old-rows}
+use Rattle.history.proofs.Scans.{Seen, start-seen, Through, through, rowsChain, rows-through}
+use Rattle.history.proofs.Shape.{holds-fits, holds-few, sizes-few}
+use Rattle.history.proofs.Slots.{Stored}
+use Rattle.history.proofs.Sorts.{sort-any, length-any, fit-any, apart-any}
+use Rattle.recovery.specs.Recovery as R
+use Rattle.recovery_walk.specs.Images as Walk
+
+-- what recovering s to e from the later log gives, against the earlier one; f has what was last appended up to it
+pub record Brings (a : View) (area : List ℕ) (z : View) (area′ : List ℕ) (f : ℕ → List ℕ) (rows : List ImageRow)
+    (s e room : ℕ) : Type 0 where
+  pub log : View
+  pub words : List ℕ
+  -- it is accepted, and writes no byte of the area
+  pub accepts : recoveryOf (z .k) (z .c) (z .m) area′ rows s e room ≡ recovered log area′ words
+  -- four words for each of s to e
+  pub count : length words ≡ 4 * idsIn s e
+  -- good rows with the payloads last appended under s to e, each once, in order
+  pub payloads : delivered (logOf log) area′ words ≡ items f s (idsIn s e)
+  -- the log is the one that pruning at the earlier moment leaves
+  pub older : View
+  pub first : pruneOldestOf a area s ≡ pruned older area
+  pub then : pruneRecentOf older area e ≡ pruned log area
+  -- the index words are those that the earlier images give
+  pub same : words ≡ rowsAll area (a .c) s e (rowsFor (a .segs)) penOf
+  -- the invariant holds of both logs over the earlier area
+  pub older-holds : Holds older area f
+  pub log-holds : Holds log area f
+  -- the images of the log that comes back give the same words, over the earlier area
+  pub kept : rowsAll area (a .c) s e (rowsFor (a .segs)) penOf ≡ rowsAll area (log .c) s e (rowsFor (log .segs)) penOf
+  -- the live range
+  pub start-is : log .start ≡ s
+  pub end-is : log .end ≡ e
+
+-- ---- the theorem
+
+module _ (a : View) (area : List ℕ) (z : View) (area′ : List ℕ) (f f′ : ℕ → List ℕ) (h : Holds a area f) (h′ : Holds z area′ f′)
+    (w : After a f z f′) (s e : ℕ) (above : 0 < s) (order : s ≤ e) (from : a .start ≤ s) (to : e ≤ a .end) where
+  abbrev Gt : Segment → Type 0
+  Gt = Stored area f (a .k) (a .c)
+
+  abbrev Gu : Segment → Type 0
+  Gu = Stored area′ f′ (z .k) (z .c)
+
+  some : 0 < length (a .segs)
+  some = some-live (a .segs) (a .start) (a .end) (h .j) (omega arith) (h .live)
+
+  inner : Inner a s
+  inner = record { some = some; above = above; upper = omega arith; lower = from }
+
+  low : h .b ≤ s
+  low = omega (arith, live-low Gt (a .segs) (h .i) (h .b) (a .start) (a .end) (h .j) (a .end + 1) some (h .chain) (h .live))
+
+  same-first : h .b ≡ h′ .b
+  same-first =
+      first-same Gt Gu (a .segs) (z .segs) (h .i) (h .b) (h .j) (a .end + 1) (h′ .i) (h′ .b) (h′ .j) (z .end + 1) some (w .grows) (h .chain)
+      (h′ .chain)
+
+  low′ : h′ .b ≤ s
+  low′ = omega (arith, low, same-first)
+
+  -- ---- pruning at the earlier moment
+
+  abbrev older : View
+  older = startedAt a s (dropOld s (a .segs))
+
+  old-holds : Holds older area f
+  old-holds = oldest-holds a area f s h inner
+
+  prunes-old : pruneOldestOf a area s ≡ pruned older area
+  unfolding pruneOldestOf
+  prunes-old = prune-inner a area s (pruned older area) (holds-fits a area f h) inner
+
+  inner′ : Inner older e
+  inner′ =
+      record {
+        some = some-live (dropOld s (a .segs)) s (a .end) (old-holds .j) (omega arith) (old-holds .live);
+        above = omega arith;
+        upper = to;
+        lower = order;
+      }
+
+  cutting : Cutting e (dropNew e (dropOld s (a .segs))) (keptOf s e (z .segs)) (z .segs)
+  cutting =
+      cut-all Gt Gu s e (a .segs) (z .segs) (h .i) (h .b) (h .j) (a .end + 1) (h′ .i) (h′ .j) (z .end + 1) low order (omega arith)
+      (h .chain)
+      (subst (λ (x : ℕ). Chain Gu (h′ .i) x (z .segs) (h′ .j) (z .end + 1)) (sym same-first) (h′ .chain)) (w .grows)
+
+  -- the log that comes back
+  abbrev log : View
+  log = record { k = z .k; c = z .c; m = z .m; start = s; end = e; segs = cutting .hs ++ (closedBy f (cutting .g) e ∷ []) }
+
+  cut-found : New Gt (old-holds .i) (old-holds .b) e (dropOld s (a .segs))
+  cut-found = at-new older area f e old-holds inner′
+
+  same-kept : cut-found .hs ++ (cut-found .g ∷ []) ≡ cutting .hs ++ (cutting .g ∷ [])
+  same-kept = sym (cut-found .kept) ∙ cutting .new
+
+  same-front : cut-found .hs ≡ cutting .hs
+  same-front =
+      sym (front-snoc (cut-found .hs) (cut-found .g)) ∙ ap (λ (l : List Segment). frontOf l) same-kept
+      ∙ front-snoc (cutting .hs) (cutting .g)
+
+  same-head : cut-found .g ≡ cutting .g
+  same-head =
+      sym (head-snoc (cut-found .hs) (cut-found .g)) ∙ ap (λ (l : List Segment). headOf l) same-kept ∙ head-snoc (cutting .hs) (cutting .g)
+
+  ended-is : endedView older f e (cut-found .hs) (cut-found .g) ≡ log
+  ended-is =
+      ap (λ (l : List Segment). endedView older f e l (cut-found .g)) same-front
+      ∙ ap (λ (g : Segment). endedView older f e (cutting .hs) g) same-head
+      ∙ (λ i. record {
+        k = sym (w .k) i;
+        c = sym (w .c) i;
+        m = sym (w .m) i;
+        start = s;
+        end = e;
+        segs = cutting .hs ++ (closedBy f (cutting .g) e ∷ []);
+      })
+
+  prunes-new : pruneRecentOf older area e ≡ pruned log area
+  unfolding pruneRecentOf cut-found
+  prunes-new =
+      prune-inner older area e _ (holds-fits older area f old-holds) inner′ ∙ recent-is older area f e old-holds inner′
+      ∙ ap (λ (x : View). pruned x area) ended-is
+
+  log-holds : Holds log area f
+  unfolding cut-found
+  log-holds = subst (λ (x : View). Holds x area f) ended-is (ended-holds older area f e old-holds inner′)
+
+  -- it fits the later area too
+  log-fits : fittingOf (logOf log) (length area′) ≡ true
+  log-fits = log-fitting log area f log-holds (length area′) (h′ .all)
+
+  -- ---- the walk at the later moment
+
+  seen : Seen s e (h′ .b) startOf
+  seen = start-seen s e (h′ .b) order (h′ .low) low′
+
+  walk : Through area′ f′ (z .k) (z .c) s e order (z .segs) (h′ .b) (z .end + 1) startOf
+  walk = through area′ f′ (z .k) (z .c) s e order (z .segs) (h′ .i) (h′ .b) (h′ .j) (z .end + 1) startOf (h′ .low) (h′ .chain) seen
+
+  abbrev words : List ℕ
+  words = rowsAll area′ (z .c) s e (rowsFor (z .segs)) penOf
+
+  words-are : words ≡ rowsChain area′ f′ (z .k) (z .c) s e order (z .segs)
+  words-are =
+      rows-through area′ f′ (z .k) (z .c) s e order (z .segs) (h′ .i) (h′ .b) (h′ .j) (z .end + 1) startOf [] (h′ .low) (h′ .chain) seen
+
+  -- the rows are those of the earlier images
+  rows-same : words ≡ rowsAll area (a .c) s e (rowsFor (a .segs)) penOf
+  rows-same =
+      words-are
+      ∙ chain-same s e Gt Gu area area′ f f′ (a .k) (a .c) (z .k) (z .c) order (a .segs) (z .segs) (h .i) (h .b) (h .j) (a .end + 1) (h′ .i)
+      (h′ .b) (h′ .j) (z .end + 1) same-first (omega arith) (h .chain) (h′ .chain) (w .grows) (λ i l. w .same i (omega arith))
+      ∙ sym (rows-through area f (a .k) (a .c) s e order (a .segs) (h .i) (h .b) (h .j) (a .end + 1) startOf [] (h .low) (h .chain)
+      (start-seen s e (h .b) order (h .low) low))
+
+  -- and those of the log that comes back
+  rows-kept : rowsAll area (a .c) s e (rowsFor (a .segs)) penOf ≡ rowsAll area (log .c) s e (rowsFor (log .segs)) penOf
+  unfolding cut-found
+  rows-kept =
+      let lh = log-holds in
+      let Gl : Segment → Type 0 = Stored area f (log .k) (log .c) in
+      let some-kept = some-live (log .segs) s e (lh .j) (omega arith) (lh .live) in
+      let lower = live-low Gl (log .segs) (lh .i) (lh .b) s e (lh .j) (e + 1) some-kept (lh .chain) (lh .live) in
+      let grown : Grows (log .segs) (dropOld s (a .segs)) =
+      subst (λ (gs : List Segment). Grows gs (dropOld s (a .segs))) (ap (λ (x : View). x .segs) ended-is)
+      (subst (λ (ys : List Segment). Grows (cut-found .hs ++ (closedBy f (cut-found .g) e ∷ [])) ys) (sym (cut-found .is))
+      (ended-grows f (cut-found .hs) (cut-found .rest) (cut-found .g) e (cut-found .high))) in
+      rows-through area f (a .k) (a .c) s e order (a .segs) (h .i) (h .b) (h .j) (a .end + 1) startOf [] (h .low) (h .chain)
+      (start-seen s e (h .b) order (h .low) low)
+      ∙ sym (old-rows s e area f (a .k) (a .c) order Gt (a .segs) (h .i) (h .b) (h .j) (a .end + 1) (h .chain))
+      ∙ chain-same s e Gl Gt area area f f (log .k) (log .c) (a .k) (a .c) order (log .segs) (dropOld s (a .segs)) (lh .i) (lh .b) (lh .j)
+      (e + 1)
+      (old-holds .i) (old-holds .b) (old-holds .j) (a .end + 1)
+      (first-same Gl Gt (log .segs) (dropOld s (a .segs)) (lh .i) (lh .b) (lh .j) (e + 1) (old-holds .i) (old-holds .b) (old-holds .j)
+      (a .end + 1)
+      some-kept grown (lh .chain) (old-holds .chain)) (omega arith) (lh .chain) (old-holds .chain) grown (λ i l. refl)
+      ∙ sym (rows-through area f (log .k) (log .c) s e order (log .segs) (lh .i) (lh .b) (lh .j) (e + 1) startOf [] (lh .low) (lh .chain)
+      (start-seen s e (lh .b) order (lh .low) lower))
+
+  counted : walk .d .live ≡ idsIn s e
+  counted = walk .seen .live ∙ omega (arith, w .end)
+
+  word-count : length words ≡ 4 * idsIn s e
+  word-count =
+      omega (arith, all-counts area′ (z .c) s e (rowsFor (z .segs)) false startOf (walk .d) (z .segs) [] (walk .is), counted)
+
+  items-are : delivered (logOf log) area′ words ≡ items f s (idsIn s e)
+  items-are =
+      ap (delivered (logOf log) area′) words-are
+      ∙ deliver-chain (logOf log) area′ f′ s e log-fits (z .segs) (h′ .i) (h′ .b) (h′ .j) (z .end + 1) order (h′ .chain)
+      ∙ live-items f′ s e (z .end + 1 - h′ .b) (h′ .b) low′ order (omega (arith, w .end, low′))
+      ∙ items-agree f′ f (idsIn s e) s (λ i l u. w .same i (omega arith))
+
+  -- ---- the head's size is the cut's
+
+  head-stored : Gu (cutting .y)
+  head-stored =
+      has-good area′ f′ (z .k) (z .c) (cutting .y) (z .segs) (h′ .i) (h′ .b) (h′ .j) (z .end + 1) (h′ .chain) (cutting .has)
+
+  head-is : walk .d .head ≡ length (recordsFrom f′ (cutting .y .min) (e + 1 - cutting .y .min))
+  head-is = walk .head (cutting .y) (cutting .has) (cutting .low) (cutting .high)
+
+  head-same : walk .d .head ≡ length (recordsFrom f (cutting .g .min) (e + 1 - cutting .g .min))
+  head-same =
+      head-is
+      ∙ ap length (from-agree f′ f (cutting .y .min) (e + 1 - cutting .y .min) (λ i l u. w .same i (omega (arith, cutting .low))))
+      ∙ ap (λ (x : ℕ). length (recordsFrom f x (e + 1 - x))) (sym (cutting .more .min))
+
+  whole : walk .d .head ≤ cutting .y .size
+  whole =
+      let y : Segment = cutting .y in
+      let fit = from-front f′ (y .min) (e + 1 - y .min) (y .max + 1 - y .min) (omega (arith, cutting .high)) in
+      omega (arith, fit .0, head-is, head-stored .long)
+
+  closed : R.closedOf (z .k) (z .c) (z .m) area′ s e (walk .d .head) words (frontOf (keptOf s e (z .segs))) (headOf (keptOf s e (z .segs)))
+      ≡ recovered log area′ words
+  closed =
+      let y : Segment = cutting .y in
+      let kept : List Segment = keptOf s e (z .segs) in
+      let front : frontOf kept ≡ cutting .hs = ap (λ (l : List Segment). frontOf l) (cutting .kept) ∙ front-snoc (cutting .hs) y in
+      let head : headOf kept ≡ y = ap (λ (l : List Segment). headOf l) (cutting .kept) ∙ head-snoc (cutting .hs) y in
+      let last : closedAt y e (walk .d .head) ≡ closedBy f (cutting .g) e =
+      λ i. record {
+        id = sym (cutting .more .id) i;
+        slot = sym (cutting .more .slot) i;
+        size = head-same i;
+        min = sym (cutting .more .min) i;
+        max = e;
+      } in
+      ap (λ (l : List Segment). R.closedOf (z .k) (z .c) (z .m) area′ s e (walk .d .head) words l (headOf kept)) front
+      ∙ ap (λ (x : Segment). R.closedOf (z .k) (z .c) (z .m) area′ s e (walk .d .head) words (cutting .hs) x) head
+      ∙ (λ i. recovered (record { k = z .k; c = z .c; m = z .m; start = s; end = e; segs = cutting .hs ++ (last i ∷ []) })
+      (splice-whole (y .slot * z .c + y .size) (walk .d .head) (y .size) area′ whole i) words)
+
+  -- ---- the tests pass
+
+  module _ (rows : List ImageRow) (room : ℕ) (any : AnyOrder rows (rowsFor (z .segs))) (enough : 4 * idsIn s e ≤ room) where
+    sorted : sortRows rows ≡ rowsFor (z .segs)
+    sorted = sort-any (h′ .i) rows (rowsFor (z .segs)) any (rising-rows Gu (z .segs) (h′ .i) (h′ .b) (h′ .j) (z .end + 1) (h′ .chain))
+
+    scanned : scanOf area′ (z .c) s e (sortRows rows) room ≡ Walk.walked (walk .d) (z .segs)
+    unfolding scanOf judged
+    scanned =
+        let b = walk .seen .start ∙ lt-ltb s (z .end + 1) (omega (arith, w .end)) in
+        let x = walk .seen .end ∙ lt-ltb e (z .end + 1) (omega (arith, w .end)) in
+        ap (λ (l : List ImageRow). judged room (images area′ (z .c) s e l false startOf)) sorted ∙ ap (judged room) (walk .is)
+        ∙ simp (b, x, le-ltb room (4 * walk .d .live) (omega (arith, counted)))
+
+    fit : rowsFit (z .k) (z .c) rows ≡ true
+    unfolding rowsFit
+    fit =
+        let few : length rows ≤ 64 =
+        omega (
+          arith,
+          length-any rows (rowsFor (z .segs)) any,
+          length-rows (z .segs),
+          holds-few z area′ f′ h′,
+          sizes-few (z .k) (z .c) (z .m) (h′ .sizes),
+        ) in
+        let inside = inside-rows area′ f′ (z .k) (z .c) (z .segs) (h′ .i) (h′ .b) (h′ .j) (z .end + 1) (h′ .chain) in
+        simp (
+          le-leb (length rows) 64 few,
+          fit-any (z .k) (z .c) rows (rowsFor (z .segs)) any inside,
+          apart-any rows (rowsFor (z .segs)) any (apart-rows (z .segs) ∙ h′ .apart),
+        )
+
+    in-front : recoveryOf (z .k) (z .c) (z .m) area′ rows s e room
+        ≡ outcomeOf (z .k) (z .c) (z .m) area′ s e (sortRows rows) (scanOf area′ (z .c) s e (sortRows rows) room)
+    unfolding recoveryOf roomyOf oneZero
+    in-front =
+        let one : lowestZero (sortRows rows) ≡ false =
+        ap lowestZero sorted ∙ lowest-rows area′ f′ (z .k) (z .c) (z .segs) (h′ .i) (h′ .b) (h′ .j) (z .end + 1) (h′ .first) (h′ .chain) in
+        let two : oneApart (sortRows rows) ≡ true =
+        ap oneApart sorted ∙ next-rows area′ f′ (z .k) (z .c) (z .segs) (h′ .i) (h′ .b) (h′ .j) (z .end + 1) (h′ .chain) in
+        simp (
+          h′ .sizes,
+          eq-eqb (length area′) (z .k * z .c) (h′ .all),
+          ne-eqb s 0 (λ y. omega arith),
+          ne-eqb e 0 (λ y. omega arith),
+          le-ltb e s order,
+          fit,
+          one,
+          two,
+        )
+
+    pub brings : Brings a area z area′ f rows s e room
+    brings =
+        record {
+          log = log;
+          words = words;
+          accepts = in-front ∙ ap (outcomeOf (z .k) (z .c) (z .m) area′ s e (sortRows rows)) scanned
+              ∙ ap (λ (l : List ImageRow). R.closedOf (z .k) (z .c) (z .m) area′ s e (walk .d .head) (rowsAll area′ (z .c) s e l penOf)
+              (frontOf (keptOf s e (z .segs))) (headOf (keptOf s e (z .segs)))) sorted ∙ closed;
+          count = word-count;
+          payloads = items-are;
+          older = older;
+          first = prunes-old;
+          then = prunes-new;
+          same = rows-same;
+          older-holds = old-holds;
+          log-holds = log-holds;
+          kept = rows-kept;
+          start-is = refl;
+          end-is = refl;
+        }

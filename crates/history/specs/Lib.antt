@@ -1,0 +1,4 @@
+pub mod History
+pub mod Recorded
+pub mod Demand
+pub mod Corollaries
