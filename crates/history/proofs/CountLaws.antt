@@ -56,6 +56,7 @@ module _ (img : List ℕ) (slot s e : ℕ) where
         );
       }
 
+  -- one image
   pub image-counts : (c d : Scan) (ws : List ℕ) → records img s e c ≡ Next d → Counted c d ws
   image-counts c d ws q = records-ind img s e Counts next fault end c d q ws
     where

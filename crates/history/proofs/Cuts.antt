@@ -19,6 +19,7 @@ use Rattle.history.proofs.CutLaws.{cut-here, cut-on}
 use Rattle.history.proofs.Over.{Plain}
 use Rattle.history.proofs.Records.{next-place}
 
+-- the cut is where the record n ends
 pub cut-records : (f : ℕ → List ℕ) (n m : ℕ) (pre : List ℕ) (a at : ℕ) → at ≡ length pre → length pre % 4096 ≡ 0 → Plain f a m → a ≤ n
     → n < a + m
     → findCut (pre ++ recordsFrom f a m) n at ≡ cutAt (length pre + length (recordsFrom f a (n + 1 - a)))

@@ -65,6 +65,7 @@ live-yes : (s e a : ℕ) → s ≤ a → a ≤ e → liveOf s e a ≡ true
 unfolding liveOf
 live-yes s e a h g = simp (le-leb s a h, le-leb a e g)
 
+-- an id above e is not live
 pub live-over : (s e a : ℕ) → e < a → liveOf s e a ≡ false
 unfolding liveOf
 live-over s e a h = go (leb s a)
@@ -73,6 +74,7 @@ live-over s e a h = go (leb s a)
     go true = lt-leb a e h
     go false = refl
 
+-- an id below s is not live
 pub live-under : (s e a : ℕ) → a < s → liveOf s e a ≡ false
 unfolding liveOf
 live-under s e a h = simp (lt-leb s a h)
@@ -92,6 +94,7 @@ live-tail f s e (suc n) a h = go (leb a e) refl (live-tail f s e n (suc a) (omeg
         let z : min (suc a + n) (e + 1) - suc a ≡ 0 = omega (arith, leb-false a e q) in
         simp (live-over s e a (leb-false a e q)) (rw y (ih ∙ rw z refl))
 
+-- the live ones of ids that reach from s or below to e or above
 pub live-items : (f : ℕ → List ℕ) (s e n a : ℕ) → a ≤ s → s ≤ e → e < a + n → liveItems f s e a n ≡ items f s (e + 1 - s)
 unfolding liveItems
 live-items f s e zero a h o u = absurd (omega arith)

@@ -121,6 +121,7 @@ module _ (P Q : Segment → Type 0) (s e : ℕ) where
             has = inr (v .has);
           }
 
+  -- what recovery keeps of the later segments, and pruning of the earlier
   pub cut-all : (gs ys : List Segment) (i b j c i′ j′ c′ : ℕ) → b ≤ s → s ≤ e → e < c → Chain P i b gs j c → Chain Q i′ b ys j′ c′
       → Grows gs ys → Cutting e (dropNew e (dropOld s gs)) (keptOf s e ys) ys
   unfolding dropOld keptOf

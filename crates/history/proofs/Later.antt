@@ -42,6 +42,7 @@ grows-nil : (g : Segment) (gs : List Segment) → Grows (g ∷ gs) [] → ⊥
 grows-nil g [] h = h
 grows-nil g (x ∷ gs) h = h
 
+-- nothing appended
 pub grows-refl : (gs : List Segment) → Grows gs gs
 grows-refl [] = tt
 grows-refl (g ∷ []) = record { id = refl; slot = refl; min = refl; max = omega arith }
@@ -84,6 +85,7 @@ pub record After (a₀ : View) (f₀ : ℕ → List ℕ) (a : View) (f : ℕ →
   pub same : (i : ℕ) → i ≤ a₀ .end → f i ≡ f₀ i
   pub grows : Grows (a₀ .segs) (a .segs)
 
+-- no append yet
 pub after-refl : (a : View) (f : ℕ → List ℕ) → After a f a f
 after-refl a f =
     record { k = refl; c = refl; m = refl; start = λ some. refl; end = omega arith; same = λ i h. refl; grows = grows-refl (a .segs) }

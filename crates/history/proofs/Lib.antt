@@ -11,7 +11,6 @@ pub mod Shape
 pub mod Appends
 pub mod Cuts
 pub mod Prunes
-pub mod LogLaws
 pub mod Runs
 pub mod Scans
 pub mod Deliver

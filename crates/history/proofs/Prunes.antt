@@ -83,6 +83,7 @@ prune-inner a area n rest h w =
 
 -- ---- oldest
 
+-- what is left of a chain without its oldest segments
 pub record Old (P : Segment → Type 0) (i b n j c : ℕ) (gs : List Segment) : Type 0 where
   pub i′ : ℕ
   pub b′ : ℕ
@@ -92,6 +93,7 @@ pub record Old (P : Segment → Type 0) (i b n j c : ℕ) (gs : List Segment) : 
   pub apart : apartOf gs ≡ true
   pub live : (e : ℕ) → Live n e j gs
 
+-- prune oldest leaves a chain whose first segment holds n
 pub old : (P : Segment → Type 0) (gs : List Segment) (i b n j c : ℕ) → 0 < length gs → b ≤ n → n < c → Chain P i b gs j c
     → apartOf gs ≡ true → Old P i b n j c (dropOld n gs)
 unfolding dropOld apartOf
@@ -115,10 +117,12 @@ old P (g ∷ x ∷ gs) i b n j c s l u h p =
     (λ q. let inside : (e : ℕ) → Live n e j (g ∷ x ∷ gs) = λ e. (omega (arith, h .0 .min), ltb-false (g .max) n q) in
     record { i′ = i; b′ = b; first = omega arith; low = omega arith; chain = h; apart = p; live = inside })
 
+-- the live start is not below the first record
 pub live-low : (P : Segment → Type 0) (gs : List Segment) (i b s e j c : ℕ) → 0 < length gs → Chain P i b gs j c → Live s e j gs → b ≤ s
 live-low P [] i b s e j c l h v = absurd (omega arith)
 live-low P (g ∷ gs) i b s e j c l h v = omega (arith, h .0 .min, v .0)
 
+-- the invariant after prune oldest
 pub oldest-holds : (a : View) (area : List ℕ) (f : ℕ → List ℕ) (n : ℕ) → Holds a area f → Inner a n
     → Holds (startedAt a n (dropOld n (a .segs))) area f
 oldest-holds a area f n h w =
@@ -148,6 +152,7 @@ oldest-keeps a area f n h =
 
 -- ---- recent
 
+-- segments above n are all dropped
 pub new-none : (P : Segment → Type 0) (gs : List Segment) (i b n j c : ℕ) → n < b → Chain P i b gs j c → dropNew n gs ≡ []
 unfolding dropNew
 new-none P [] i b n j c l h = refl
@@ -155,10 +160,12 @@ new-none P (g ∷ gs) i b n j c l h =
     ap (keepAt n g) (new-none P gs (i + 1) (g .max + 1) n j c (omega (arith, h .0 .order)) (h .1))
     ∙ simp (lt-ltb n (g .min) (omega (arith, h .0 .min)))
 
+-- a segment in front of one that is kept is kept
 pub keep-cons : (n : ℕ) (g : Segment) (hs : List Segment) (x : Segment) → keepAt n g (hs ++ (x ∷ [])) ≡ g ∷ (hs ++ (x ∷ []))
 keep-cons n g [] x = refl
 keep-cons n g (h ∷ hs) x = refl
 
+-- the segment that holds the record n, with those before and behind it
 pub record New (P : Segment → Type 0) (i b n : ℕ) (gs : List Segment) : Type 0 where
   pub hs : List Segment
   pub g : Segment
@@ -170,6 +177,7 @@ pub record New (P : Segment → Type 0) (i b n : ℕ) (gs : List Segment) : Type
   pub low : g .min ≤ n
   pub high : n ≤ g .max
 
+-- prune recent keeps the segments up to the one that holds n
 pub new : (P : Segment → Type 0) (gs : List Segment) (i b n j c : ℕ) → b ≤ n → n < c → Chain P i b gs j c → New P i b n gs
 unfolding dropNew
 new P [] i b n j c l u h = absurd (omega (arith, h .1))
@@ -221,6 +229,7 @@ apart-front (g ∷ hs) gs h =
 abbrev pub closedBy : (ℕ → List ℕ) → Segment → ℕ → Segment
 closedBy f g n = record { id = g .id; slot = g .slot; size = length (recordsFrom f (g .min) (n + 1 - g .min)); min = g .min; max = n }
 
+-- the log that ends with the record n in g, after hs
 abbrev pub endedView : View → (ℕ → List ℕ) → ℕ → List Segment → Segment → View
 endedView a f n hs g = record { k = a .k; c = a .c; m = a .m; start = a .start; end = n; segs = hs ++ (closedBy f g n ∷ []) }
 
@@ -233,6 +242,7 @@ module _ (a : View) (area : List ℕ) (f : ℕ → List ℕ) (n : ℕ) (h : Hold
   abbrev P : Segment → Type 0
   P = Stored area f (a .k) (a .c)
 
+  -- the segment that holds n
   pub at-new : New P (h .i) (h .b) n (a .segs)
   at-new =
       new P (a .segs) (h .i) (h .b) n (h .j) (a .end + 1)
@@ -269,6 +279,7 @@ module _ (a : View) (area : List ℕ) (f : ℕ → List ℕ) (n : ℕ) (h : Hold
             ∙ ap (take (length (recordsFrom f (g .min) (n + 1 - g .min)))) (good .image) ∙ fit .1;
       }
 
+  -- the invariant after prune recent
   pub ended-holds : Holds (endedView a f n (at-new .hs) (at-new .g)) area f
   ended-holds =
       let t = at-new in

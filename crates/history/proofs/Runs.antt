@@ -1,46 +1,34 @@
 -- The invariant holds after any run of calls from a new log, of the log as the code holds it.
 -- Assumes nothing.
 use mathlib.Core.Bool.{not, true, _&&_, Bool, false}
-use mathlib.Core.List.{List, [], _∷_}
-use mathlib.Core.Path.{_≡_, ap, _∙_, refl, subst, sym}
-use Prim.Native.Nat.{ℕ, _*_}
+use mathlib.Core.List.{_++_, List, [], _∷_}
+use mathlib.Core.Path.{_≡_, refl, ap, _∙_, subst, sym}
+use Prim.Native.Nat.{_-_, ℕ, _*_}
 use native.Mathlib.Omega.{arith}
 use lib.Dec.{eqb}
-use lib.ListN.{length}
+use lib.ListN.{take, length, replicate}
+use lib.Seq.{take-at}
 use borrow.Author.Tests.{eq-eqb, ne-eqb, eqb-true}
 use Rattle.lists.specs.Choice.{pick}
 use Rattle.seglog.proofs.Bools.{and-both, both-and}
 use Rattle.seglog.proofs.View.{plain-log, view-log}
-use Rattle.seglog.specs.Log.{View, logOf, plainOf, fittingOf, shapedOf, viewOf, sizesOf, emptyOf, zeroLog}
+use Rattle.seglog.specs.Log.{View, noSegment, logOf, plainOf, fittingOf, shapedOf, viewOf, sizesOf, emptyOf, zeroLog}
 use Rattle.seglog.specs.New.{newOf, accepted, roomyOf, refusedLog}
 use Rattle.seglog.specs.declared.Log.{Log}
 use Rattle.seglog_append.specs.Append.{Appending, appended, appendLog, appendOf, appendAnswer}
 use Rattle.seglog_prune.specs.Prune.{Pruning, pruned, oldestLog, pruneOldestOf, recentLog, pruneRecentOf}
 use Rattle.recovery_walk.specs.Images.{after}
-use Rattle.history.specs.History.{
-  Held,
-  append,
-  noted,
-  run,
-  oldest,
-  recent,
-  afterAppend,
-  heard,
-  afterPrune,
-  step,
-  heardCall,
-  Call,
-  told,
-  begun,
-  nothing,
-  lastUnder,
-}
+use Rattle.history.specs.History.{Held, append, noted, run, oldest, recent, afterAppend, heard, afterPrune, step, heardCall, Call, told, begun, nothing, lastUnder}
 use Rattle.history.proofs.Appends.{AppendKeeps, append-keeps}
 use Rattle.history.proofs.Invariant.{Holds, empty-holds}
 use Rattle.history.proofs.Prunes.{PruneKeeps, oldest-keeps, recent-keeps}
 use Rattle.history.proofs.Shape.{holds-few, sizes-few, fits-both, holds-fits}
 use Rattle.seglog_append.specs.Append as A
 use Rattle.seglog_prune.specs.Prune as P
+
+-- the listed segments, of a view's log
+pub listed-log : (a : View) → take (length (a .segs)) (a .segs ++ replicate (64 - length (a .segs)) noSegment) ≡ a .segs
+listed-log a = take-at (a .segs) (replicate (64 - length (a .segs)) noSegment) (length (a .segs)) refl
 
 -- what is held came from calls: it is the log of a view of which the invariant holds, and of which Q says more
 pub record Came (Q : View → (ℕ → List ℕ) → Type 0) (t : Held) (f : ℕ → List ℕ) : Type 0 where
@@ -81,10 +69,12 @@ module _ (a : View) (area : List ℕ) (f : ℕ → List ℕ) (h : Holds a area f
   unfolding appendLog
   append-log p = simp plain (ap (λ (x : View). appendOf x area p) (view-log a))
 
+  -- prune oldest
   pub oldest-log : (n : ℕ) → oldestLog (logOf a) area n ≡ pruneOldestOf a area n
   unfolding oldestLog
   oldest-log n = simp plain (ap (λ (x : View). pruneOldestOf x area n) (view-log a))
 
+  -- prune recent
   pub recent-log : (n : ℕ) → recentLog (logOf a) area n ≡ pruneRecentOf a area n
   unfolding recentLog
   recent-log n = simp plain (ap (λ (x : View). pruneRecentOf x area n) (view-log a))
@@ -161,6 +151,7 @@ pub record Begun (k c m : ℕ) (area : List ℕ) : Type 0 where
   pub all : length area ≡ k * c
   pub log : newOf k c m (length area) .log ≡ logOf (emptyOf k c m)
 
+-- what an accepted new log says
 pub begun-accepted : (k c m : ℕ) (area : List ℕ) → newOf k c m (length area) .refusal ≡ 0 → Begun k c m area
 unfolding newOf roomyOf
 begun-accepted k c m area h = go (sizesOf k c m && eqb (length area) (k * c)) refl h

@@ -91,6 +91,7 @@ module _ (s e : ℕ) where
         rw (rows-none f′ (y .slot) (y .max + 1 - y .min) 0 (y .min) (omega (arith, h .0 .min)))
         (chain-none ys (i + 1) (y .max + 1) j c (omega (arith, h .0 .order)) (h .1))
 
+    -- the later segments give the rows of the earlier
     pub chain-same : (gs ys : List Segment) (i b j c i′ b′ j′ c′ : ℕ) → b ≡ b′ → e < c → Chain P i b gs j c → Chain Q i′ b′ ys j′ c′
         → Grows gs ys → ((i : ℕ) → i < c → f′ i ≡ f i)
         → rowsChain area′ f′ k′ n′ s e order ys ≡ rowsChain area f k n s e order gs

@@ -67,6 +67,7 @@ module _ (f : ℕ → List ℕ) (s e : ℕ) (order : s ≤ e) where
         live = live-more s e b (c .live) order (h .live);
       }
 
+  -- n records more have been seen
   pub over-seen : (n b : ℕ) (c : Scan) → Seen s e b c → Seen s e (b + n) (over f s e c b n)
   unfolding over
   over-seen zero b c h = rw add-zero h
@@ -82,17 +83,20 @@ module _ (f : ℕ → List ℕ) (s e : ℕ) (order : s ≤ e) where
       let same : pick (eqb (c .min) 0) b (c .min) ≡ c .min = simp (ne-eqb (c .min) 0 h) in
       over-min n (suc b) (advancedOf c s e (length (f b)) b) (λ z. h (sym same ∙ z)) ∙ same
 
+  -- the first id of an image
   pub over-first : (n b : ℕ) (c : Scan) → c .min ≡ 0 → 1 ≤ b → over f s e c b (suc n) .min ≡ b
   unfolding over advancedOf
   over-first n b c z l =
       let same : pick (eqb (c .min) 0) b (c .min) ≡ b = simp (eq-eqb (c .min) 0 z) in
       over-min n (suc b) (advancedOf c s e (length (f b)) b) (λ y. omega (arith, same, y)) ∙ same
 
+  -- the last id of an image
   pub over-max : (n b : ℕ) (c : Scan) → over f s e c b (suc n) .max ≡ b + n
   unfolding over advancedOf
   over-max zero b c = sym (add-zero b)
   over-max (suc n) b c = over-max n (suc b) (advancedOf c s e (length (f b)) b) ∙ omega arith
 
+  -- the head's end stays where e is not among the records
   pub head-out : (n b : ℕ) (c : Scan) → ((i : ℕ) → b ≤ i → i < b + n → i ≡ e → ⊥) → over f s e c b n .head ≡ c .head
   unfolding over advancedOf
   head-out zero b c h = refl
@@ -100,6 +104,7 @@ module _ (f : ℕ → List ℕ) (s e : ℕ) (order : s ≤ e) where
       head-out n (suc b) (advancedOf c s e (length (f b)) b) (λ i l u. h i (omega arith) (omega arith))
       ∙ simp (ne-eqb b e (h b (omega arith) (omega arith)))
 
+  -- the head's end is where e's record ends
   pub head-in : (n b : ℕ) (c : Scan) → b ≤ e → e < b + n → c .pos % 4096 ≡ 0
       → over f s e c b n .head ≡ c .pos + length (recordsFrom f b (e + 1 - b))
   unfolding over advancedOf recordsFrom
@@ -138,6 +143,7 @@ module _ (area : List ℕ) (f : ℕ → List ℕ) (k n s e : ℕ) (order : s ≤
   abbrev P : Segment → Type 0
   P = Stored area f k n
 
+  -- what the walk of the images of segments comes to
   pub record Through (gs : List Segment) (b b′ : ℕ) (c : Scan) : Type 0 where
     pub d : Scan
     pub is : images area n s e (rowsFor gs) false c ≡ walked d gs
@@ -182,6 +188,7 @@ module _ (area : List ℕ) (f : ℕ → List ℕ) (k n s e : ℕ) (order : s ≤
         ∙ omega arith in
         λ i. record { id = g .id; slot = g .slot; size = g .size; min = lo i; max = hi i }
 
+  -- the walk of a chain's images
   pub through : (gs : List Segment) (i b j b′ : ℕ) (c : Scan) → 1 ≤ b → Chain P i b gs j b′ → Seen s e b c → Through gs b b′ c
   unfolding images gapOf
   through [] i b j b′ c l h w =
@@ -221,6 +228,7 @@ module _ (area : List ℕ) (f : ℕ → List ℕ) (k n s e : ℕ) (order : s ≤
   rowsChain [] = []
   rowsChain (g ∷ gs) = rowsOver f s e (g .slot) 0 (g .min) (g .max + 1 - g .min) ++ rowsChain gs
 
+  -- the rows' pass over a chain's images
   pub rows-through : (gs : List Segment) (i b j b′ : ℕ) (c : Scan) (ws : List ℕ) → 1 ≤ b → Chain P i b gs j b′ → Seen s e b c
       → rowsAll area n s e (rowsFor gs) (record { words = ws; scan = c }) ≡ ws ++ rowsChain gs
   unfolding rowsAll rowsChain

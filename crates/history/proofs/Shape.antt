@@ -40,6 +40,7 @@ module _ (area : List ℕ) (f : ℕ → List ℕ) (k c : ℕ) where
         room-ge (length (f (g .min))),
       )
 
+  -- slots below K
   pub below : (gs : List Segment) (i b j e : ℕ) → Chain P i b gs j e → Below k gs
   below [] i b j e h = tt
   below (g ∷ gs) i b j e h = (h .0 .good .slot, below gs (i + 1) (g .max + 1) j e (h .1))
@@ -51,6 +52,7 @@ module _ (area : List ℕ) (f : ℕ → List ℕ) (k c : ℕ) where
       both-and (eqb (x .id) (g .id + 1)) (eqb (x .min) (g .max + 1)) (eq-eqb (x .id) (g .id + 1) (omega (arith, h .0 .id)))
       (eq-eqb (x .min) (g .max + 1) (h .0 .min))
 
+  -- a chain passes the test of neighbours
   pub chain-good : (gs : List Segment) (i b j e : ℕ) → 1 ≤ i → 1 ≤ b → Chain P i b gs j e → chainOf k c gs ≡ true
   unfolding chainOf segOf
   chain-good [] i b j e l m h = refl
@@ -81,10 +83,12 @@ module _ (area : List ℕ) (f : ℕ → List ℕ) (k c : ℕ) where
       (both-and (leb (g .min) s) (leb s (g .max)) (le-leb (g .min) s (l .0)) (le-leb s (g .max) (l .1)))
       (eq-eqb (x .size % 4096) 0 pages)) (eq-eqb (x .max) e (omega (arith, t .max)))
 
+-- no more segments than slots
 pub holds-few : (a : View) (area : List ℕ) (f : ℕ → List ℕ) → Holds a area f → length (a .segs) ≤ a .k
 holds-few a area f h =
     pigeons (a .k) (a .segs) (h .apart) (below area f (a .k) (a .c) (a .segs) (h .i) (h .b) (h .j) (a .end + 1) (h .chain))
 
+-- the invariant implies that the log is well shaped and fits
 pub holds-fits : (a : View) (area : List ℕ) (f : ℕ → List ℕ) → Holds a area f → fitsOf a area ≡ true
 unfolding fitsOf shapedOf
 holds-fits a area f h =

@@ -30,15 +30,19 @@ pub record Upto (area : List ℕ) (f : ℕ → List ℕ) (k c b : ℕ) (g : Segm
   pub long : g .size ≡ length (recordsFrom f (g .min) (b - g .min))
   pub image : imageIn area c g ≡ recordsFrom f (g .min) (b - g .min)
 
+-- g's slot begins with all its records
 abbrev pub Stored : List ℕ → (ℕ → List ℕ) → ℕ → ℕ → Segment → Type 0
 Stored area f k c g = Upto area f k c (g .max + 1) g
 
+-- a slot ends inside the area
 pub slot-under : (c t k : ℕ) → t < k → t * c + c ≤ k * c
 slot-under c t k h = rw suc-mul at (mul-le-mul-right c h)
 
+-- another id keeps its payload
 pub noted-other : (f : ℕ → List ℕ) (b : ℕ) (p : List ℕ) (i : ℕ) → i < b → f i ≡ noted f b p i
 noted-other f b p i h = sym (simp (ne-eqb i b (λ z. omega arith)))
 
+-- the id noted has the payload
 pub noted-same : (f : ℕ → List ℕ) (b : ℕ) (p : List ℕ) → noted f b p b ≡ p
 noted-same f b p = simp (eq-eqb b b refl)
 

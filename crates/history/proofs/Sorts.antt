@@ -44,6 +44,7 @@ insert-place lo (z ∷ xs) x ys h =
     simp (lt-leb (x .id) (z .id) (omega (arith, rising-at (z .id + 1) xs x ys (h .1))))
     (ap (λ (l : List ImageRow). z ∷ l) (insert-place (z .id + 1) xs x ys (h .1)))
 
+-- sorting gives back rows whose ids rise
 pub sort-any : (lo : ℕ) (l t : List ImageRow) → AnyOrder l t → Rising lo t → sortRows l ≡ t
 unfolding sortRows
 sort-any lo [] t o h = sym o
@@ -52,6 +53,7 @@ sort-any lo (x ∷ l) t o h =
     ap (insertRow x) (sort-any lo l (o .before ++ o .behind) (o .others) (rising-less lo (o .before) x (o .behind) r))
     ∙ insert-place lo (o .before) x (o .behind) r ∙ sym (o .whole)
 
+-- as many rows
 pub length-any : (l t : List ImageRow) → AnyOrder l t → length l ≡ length t
 length-any [] t o = sym (ap length o)
 length-any (x ∷ l) t o =
@@ -67,6 +69,7 @@ fit-parts k c (z ∷ xs) x ys h =
     let u = fit-parts k c xs x ys (t .1) in
     (u .0, both-and (ltb (z .slot) k && leb (z .size) c) (rowsInside k c (xs ++ ys)) (t .0) (u .1))
 
+-- slots below K, sizes at most C
 pub fit-any : (k c : ℕ) (l t : List ImageRow) → AnyOrder l t → rowsInside k c t ≡ true → rowsInside k c l ≡ true
 unfolding rowsInside
 fit-any k c [] t o h = refl
@@ -119,6 +122,7 @@ apart-parts (z ∷ xs) x ys h =
           (rowsApart (xs ++ ys)) (v .1) (u .1),
     )
 
+-- no slot twice
 pub apart-any : (l t : List ImageRow) → AnyOrder l t → rowsApart t ≡ true → rowsApart l ≡ true
 unfolding rowsApart
 apart-any [] t o h = refl

@@ -18,8 +18,7 @@ use Rattle.history.specs.History.{run, oldest, recent, step, afterPrune,
 use Rattle.history.proofs.IndexRows.{rows-are}
 use Rattle.history.proofs.Invariant.{Holds}
 use Rattle.history.proofs.Later.{After, appends-after, after-refl}
-use Rattle.history.proofs.LogLaws.{listed-log}
-use Rattle.history.proofs.Runs.{heldOf, oldest-log, recent-log, Came, Any, on-view, runs-keep}
+use Rattle.history.proofs.Runs.{heldOf, oldest-log, recent-log, Came, Any, listed-log, on-view, runs-keep}
 use Rattle.history.proofs.Views.{Brings, brings}
 
 -- what holds of views holds of their logs

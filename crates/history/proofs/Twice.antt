@@ -15,8 +15,7 @@ use Rattle.history.specs.Corollaries.{SameTwice, afterRecovery, Recoveri
 use Rattle.history.specs.Demand.{AnyOrder, rowsFor, listed, idsIn, recovering, earlier}
 use Rattle.history.specs.History.{Held, run, appends, told, lastUnder, begun}
 use Rattle.history.proofs.Invariant.{some-live}
-use Rattle.history.proofs.LogLaws.{listed-log}
-use Rattle.history.proofs.Runs.{Came, Any, on-view, heldOf, runs-keep}
+use Rattle.history.proofs.Runs.{Came, Any, listed-log, on-view, heldOf, runs-keep}
 use Rattle.history.proofs.Theorem.{later-came, brings-held, accepts-held}
 use Rattle.history.proofs.Views.{Brings}
 use Rattle.history.proofs.Whole.{brings-self, whole-log}

@@ -329,6 +329,7 @@ module _ (a : View) (area : List ℕ) (z : View) (area′ : List ℕ) (f f′ : 
           two,
         )
 
+    -- demand 3, by views
     pub brings : Brings a area z area′ f rows s e room
     brings =
         record {

@@ -36,6 +36,7 @@ pub record Went (s e : ℕ) (c d : Scan) : Type 0 where
   pub id : ℕ
   pub to : d ≡ advancedOf c s e len id
 
+-- a step that went on read a header and advanced
 pub went : (img : List ℕ) (s e : ℕ) (c d : Scan) → recordStep img s e c ≡ Next d → Went s e c d
 unfolding recordStep afterHeader
 went img s e c d m = by (headerAt img (c .pos)) m

@@ -23,9 +23,8 @@ use Rattle.history.specs.Recorded.{recordsFrom}
 use Rattle.history.proofs.Chain.{Chain, chain-le, chain-snoc}
 use Rattle.history.proofs.Invariant.{Live, Holds, some-live}
 use Rattle.history.proofs.Later.{after-refl}
-use Rattle.history.proofs.LogLaws.{listed-log}
 use Rattle.history.proofs.Prunes.{live-low, prune-inner, Inner, at-new, closedBy, recent-is}
-use Rattle.history.proofs.Runs.{Any, heldOf, Came, runs-keep, on-view}
+use Rattle.history.proofs.Runs.{Any, heldOf, listed-log, Came, runs-keep, on-view}
 use Rattle.history.proofs.Shape.{holds-fits}
 use Rattle.history.proofs.Slots.{Stored}
 use Rattle.history.proofs.Views.{brings, Brings}
@@ -60,6 +59,7 @@ module _ (a : View) (area : List ℕ) (f : ℕ → List ℕ) (h : Holds a area f
     start-above =
         omega (arith, h .low, live-low P (a .segs) (h .i) (h .b) (a .start) (a .end) (h .j) (a .end + 1) some (h .chain) (h .live))
 
+    -- the live start is not above the live end
     pub start-order : a .start ≤ a .end
     start-order = under (a .segs) some (h .chain) (h .live)
       where
@@ -92,7 +92,8 @@ module _ (a : View) (area : List ℕ) (f : ℕ → List ℕ) (h : Holds a area f
         let same : closedBy f (t .g) (a .end) ≡ t .g =
         λ i. record { id = t .g .id; slot = t .g .slot; size = long i; min = t .g .min; max = sym max i } in
         prune-inner a area (a .end) _ (holds-fits a area f h) w ∙ recent-is a area f (a .end) h w
-        ∙ ap (λ (g : Segment). pruned (startedAt a (a .start) (t .hs ++ (g ∷ []))) area) same ∙ ap (λ (gs : List Segment). pruned (startedAt a (a .start) gs) area) split
+        ∙ ap (λ (g : Segment). pruned (startedAt a (a .start) (t .hs ++ (g ∷ []))) area) same
+        ∙ ap (λ (gs : List Segment). pruned (startedAt a (a .start) gs) area) split
 
   -- recovering from a log's own images, with nothing appended since
   pub brings-self : (s e : ℕ) → 0 < s → s ≤ e → a .start ≤ s → e ≤ a .end → (rows : List ImageRow) (room : ℕ)
