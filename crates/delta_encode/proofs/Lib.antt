@@ -1,3 +1,5 @@
 pub mod Any
 pub mod Writes
 pub mod Whole
+pub mod Parse
+pub mod RoundTrip
