@@ -3,3 +3,5 @@ pub mod Writes
 pub mod Whole
 pub mod Parse
 pub mod RoundTrip
+pub mod Orders
+pub mod Unique
