@@ -3,8 +3,8 @@
 use mathlib.Core.List.{List, [], _∷_, _++_}
 use mathlib.Core.Bool.{Bool}
 use mathlib.Core.Path.{_≡_}
-use Prim.Native.Nat.{ℕ, _+_, _-_}
-use lib.ListN.{length}
+use Prim.Native.Nat.{ℕ, _+_, _-_, _*_, _<_}
+use lib.ListN.{length, getD}
 use Rattle.lists.specs.Choice.{pick}
 use Rattle.lists.specs.Splice.{splice}
 use Rattle.lists.specs.Until.{Turn, again, stop, until}
@@ -50,6 +50,11 @@ unfoldable pub rowsAll : List ℕ → (n s e : ℕ) → List ImageRow → Pen �
 rowsAll area n s e [] w = w .words
 rowsAll area n s e (r ∷ rs) w =
     rowsAll area n s e rs (rowsIn (imageOf area n r) (r .slot) s e (record { words = w .words; scan = openedOf (w .scan) }))
+
+-- m rows of four words, whose ids are s, s + 1 and so on
+pub record RowIds (s m : ℕ) (ws : List ℕ) : Type 0 where
+  pub count : length ws ≡ 4 * m
+  pub id-at : (i : ℕ) → i < m → getD ws (4 * i) 0 ≡ s + i
 
 -- ---- as the code writes them
 
