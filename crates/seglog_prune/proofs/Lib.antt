@@ -1,2 +1,3 @@
 pub mod Drops
 pub mod Cut
+pub mod Ways

@@ -80,13 +80,14 @@ returns-3 c =
     ∙ ap cutAt (sym (c .before .before .reader-next-pos .ensures)))
 
 -- the next record begins behind this one, and less than a page behind it
-next-far : (c : tie.After-reader-next-pos Inv-loop μ-loop) → let told = c .before .before .before in
-    at-of (in-of told) + 12 + told .before .header .given .0 .0 .length ≤ c .reader-next-pos .result
-next-far c = omega (arith, c .reader-next-pos .ensures, pad-ge 4096 _ (lit< tt))
+abbrev end-of : tie.After-reader-next-pos Inv-loop μ-loop → ℕ
+end-of c = let told = c .before .before .before in at-of (in-of told) + 12 + told .before .header .given .0 .0 .length
 
-next-near : (c : tie.After-reader-next-pos Inv-loop μ-loop) → let told = c .before .before .before in
-    c .reader-next-pos .result < at-of (in-of told) + 12 + told .before .header .given .0 .0 .length + 4096
-next-near c = omega (arith, c .reader-next-pos .ensures, pad-lt 4096 _ (lit< tt))
+next-far : (c : tie.After-reader-next-pos Inv-loop μ-loop) → end-of c ≤ c .reader-next-pos .result
+next-far c = omega (arith, c .reader-next-pos .ensures, pad-ge 4096 (end-of c) (lit< tt))
+
+next-near : (c : tie.After-reader-next-pos Inv-loop μ-loop) → c .reader-next-pos .result < end-of c + 4096
+next-near c = omega (arith, c .reader-next-pos .ensures, pad-lt 4096 (end-of c) (lit< tt))
 
 loop-less : tie.Need-loop-less Inv-loop μ-loop
 loop-less c = omega (arith, next-far (c .before .before), inside (in-of (c .before .before .before .before .before)))

@@ -51,7 +51,7 @@ loop-again c =
     record {
       long = l .inv .long;
       within = search needs;
-      so-far = shift-turn 64 _ (l .inv .long) _ (search needs) (l .out) (l .i) (search needs) (l .inv .so-far);
+      so-far = shift-turn 64 _ (l .inv .long) (c .before .before .before .args .first) (search needs) (l .out) (l .i) (search needs) (l .inv .so-far);
     }
 
 sub-cleared : tie.Need-sub-cleared Inv-loop μ-loop
