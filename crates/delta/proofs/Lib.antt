@@ -5,3 +5,5 @@ pub mod Arranging
 pub mod Groups
 pub mod Whole
 pub mod Unique
+pub mod Unwound
+pub mod Depends

@@ -1,2 +1,3 @@
 pub mod ImageRows
+pub mod Rows
 pub mod Recovery

@@ -1,4 +1,5 @@
 -- Recovery, as document 01 says it: 1, 11 to 15, the scan (16 to 23), and what an accepted scan leaves. Assumes nothing.
+use mathlib.Core.Path.{_≡_}
 use mathlib.Core.List.{List, [], _∷_, _++_}
 use mathlib.Core.Bool.{Bool, true, false, _&&_, _||_, not}
 use Prim.Native.Nat.{ℕ, _+_, _-_, _*_, _/_}
@@ -88,3 +89,10 @@ recoveryArea area (recovered a after words) = after
 abbrev pub recoveryIndex : List ℕ → Recovery → List ℕ
 recoveryIndex index (refused n) = index
 recoveryIndex index (recovered a area words) = words ++ drop (length words) index
+
+-- what recovery ensures: the answer, every byte of the area, every word of the index
+pub record RecoveryDid (k c m : ℕ) (area : List ℕ) (images : List ImageRow) (s e : ℕ) (index : List ℕ) (r : Recovered)
+    (area′ index′ : List ℕ) : Type 0 where
+  pub answer : r ≡ recoveryAnswer (recoveryOf k c m area images s e (length index))
+  pub bytes : area′ ≡ recoveryArea area (recoveryOf k c m area images s e (length index))
+  pub words : index′ ≡ recoveryIndex index (recoveryOf k c m area images s e (length index))

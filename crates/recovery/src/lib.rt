@@ -1,5 +1,12 @@
 // Recovery of a log from the images of its segments (`open`, `Recovery::scan_root_dir`, `remove_nonlive_segments` of the Rust's mod.rs).
+// The image rows are read once, into an array by value; everything else works on that.
+ghost use mathlib.Core.Path.{_≡_};
+ghost use Prim.Native.Nat.{_<_};
+ghost use Rattle.recovery.specs.Rows.{noRows, tooMany, putRow, rowsOf, listedOf};
+ghost use Rattle.recovery.specs.Recovery.{refused, recoveryAnswer, RecoveryDid};
+use recovery_walk::ImageRow;
 use seglog::Log;
+use seglog::Segment;
 
 // A refusal's number with the all-zero log, or 0 with the number of index rows written and the log.
 #[repr(C)]
@@ -7,4 +14,93 @@ pub struct Recovered {
     pub refusal: u32,
     pub rows: u64,
     pub log: Log,
+}
+
+// The image rows: the first `count` entries. A count above 64 stands for more rows than there is room for.
+pub struct Rows {
+    pub count: usize,
+    pub rows: [ImageRow; 64],
+}
+
+mod images;
+
+// No row yet.
+fn no_rows() -> Rows
+    ensures { λ r. ⌜ r ≡ noRows ⌝ }
+{
+    let row = ImageRow {
+        id: 0,
+        slot: 0,
+        size: 0,
+    };
+    let rows = [row; 64];
+    Rows { count: 0, rows }
+}
+
+// More rows than there is room for.
+fn too_many() -> Rows
+    ensures { λ r. ⌜ r ≡ tooMany ⌝ }
+{
+    let row = ImageRow {
+        id: 0,
+        slot: 0,
+        size: 0,
+    };
+    let rows = [row; 64];
+    Rows { count: 65, rows }
+}
+
+fn put_row(acc: Rows, i: usize, row: ImageRow) -> Rows
+    requires { ⌜ i < 64 ⌝ }
+    ensures { λ r. ⌜ r ≡ putRow acc i row ⌝ }
+{
+    let mut next = acc;
+    next.rows[i] = row;
+    next.count = i + 1;
+    next
+}
+
+// The rows of the slice, copied into an array.
+pub fn read_rows(rows: &[ImageRow]) -> Rows
+    ensures { λ r. ⌜ r ≡ rowsOf (now (rows .entry)) ⌝ }
+{
+    if 64 < rows.len() {
+        return too_many();
+    }
+    let mut acc = no_rows();
+    let mut i = 0;
+    while i < rows.len() {
+        let row = rows[i];
+        acc = put_row(acc, i, row);
+        i += 1;
+    }
+    acc
+}
+
+// A refusal, with the all-zero log.
+fn refusal(number: u32) -> Recovered
+    ensures { λ r. ⌜ r ≡ recoveryAnswer (refused number) ⌝ }
+{
+    let none = Segment {
+        id: 0,
+        slot: 0,
+        size: 0,
+        min: 0,
+        max: 0,
+    };
+    let segs = [none; 64];
+    let log = Log {
+        k: 0,
+        c: 0,
+        m: 0,
+        start: 0,
+        end: 0,
+        count: 0,
+        segs,
+    };
+    Recovered {
+        refusal: number,
+        rows: 0,
+        log,
+    }
 }

@@ -69,6 +69,11 @@ abbrev pub after : Step → (Scan → Outcome) → Outcome
 after (Next d) k = k d
 after (Fault n) k = refused n
 
+-- a fault's number; 0 of a step that goes on
+abbrev pub faultOf : Step → ℕ
+faultOf (Next d) = 0
+faultOf (Fault n) = n
+
 -- segments in front of an outcome's segments
 abbrev pub behind : List Segment → Outcome → Outcome
 behind gs (refused n) = refused n

@@ -2,3 +2,4 @@ pub mod Step
 pub mod Images
 pub mod Rows
 pub mod Scan
+pub mod Headers

@@ -2,9 +2,11 @@
 -- the same steps as the walk's. Laws: proofs/. Assumes nothing.
 use mathlib.Core.List.{List, [], _∷_, _++_}
 use mathlib.Core.Bool.{Bool}
-use Prim.Native.Nat.{ℕ, _-_}
-use lib.ListN.{length}
+use mathlib.Core.Path.{_≡_}
+use Prim.Native.Nat.{ℕ, _+_, _-_, _*_, _<_}
+use lib.ListN.{length, getD}
 use Rattle.lists.specs.Choice.{pick}
+use Rattle.lists.specs.Splice.{splice}
 use Rattle.lists.specs.Until.{Turn, again, stop, until}
 use Rattle.recovery_walk.specs.declared.ImageRow.{ImageRow}
 use Rattle.recovery_walk.specs.declared.Scan.{Scan}
@@ -48,3 +50,15 @@ unfoldable pub rowsAll : List ℕ → (n s e : ℕ) → List ImageRow → Pen �
 rowsAll area n s e [] w = w .words
 rowsAll area n s e (r ∷ rs) w =
     rowsAll area n s e rs (rowsIn (imageOf area n r) (r .slot) s e (record { words = w .words; scan = openedOf (w .scan) }))
+
+-- m rows of four words, whose ids are s, s + 1 and so on
+pub record RowIds (s m : ℕ) (ws : List ℕ) : Type 0 where
+  pub count : length ws ≡ 4 * m
+  pub id-at : (i : ℕ) → i < m → getD ws (4 * i) 0 ≡ s + i
+
+-- ---- as the code writes them
+
+-- what writing a row's words at a place ensures: the words stand there, and r is the place behind them
+pub record RowPut (index : List ℕ) (at : ℕ) (row index′ : List ℕ) (r : ℕ) : Type 0 where
+  pub next : r ≡ at + length row
+  pub words : index′ ≡ splice at row index

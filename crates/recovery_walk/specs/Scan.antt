@@ -30,6 +30,10 @@ abbrev pub scannedOf : Outcome → Scanned
 scannedOf (refused n) = record { fault = n; scan = startOf; segs = replicate 64 noSegment }
 scannedOf (walked c gs) = record { fault = 0; scan = c; segs = gs ++ replicate (64 - length gs) noSegment }
 
+-- the answer from the number of the first fault, 0 where there is none, the last state and the 64 entries
+abbrev pub settledOf : ℕ → Scan → List Segment → Scanned
+settledOf fault c segs = pick (eqb fault 0) (record { fault = 0; scan = c; segs = segs }) (scannedOf (refused fault))
+
 -- the index afterwards: untouched by a refusal; else the words, and "later words of the index keep their content"
 unfoldable pub indexOf : List ℕ → Outcome → List ℕ → List ℕ
 indexOf ws (refused m) index = index

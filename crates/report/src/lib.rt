@@ -6,13 +6,18 @@ pub fn say(bytes: &[u8]) {
     io::write_all(STDOUT_FILENO, bytes);
 }
 
+// Writes the first n bytes, where there are so many.
+pub fn say_front(bytes: &[u8], n: usize) {
+    if n <= bytes.len() {
+        say(&bytes[..n]);
+    }
+}
+
 // Writes a number in decimal.
 pub fn number(v: u64) {
     let mut digits = [0u8; 20];
     let n = text::decimal(v, &mut digits);
-    if n <= 20 {
-        say(&digits[..n]);
-    }
+    say_front(&digits, n);
 }
 
 // Writes a word, a space and a number.

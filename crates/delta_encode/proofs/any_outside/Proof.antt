@@ -1,53 +1,78 @@
+-- `delta_encode::any_outside` meets its contract. The loop's invariant: the rows from i on decide.
+-- The measure is the number of rows left. Assumes nothing.
+use Prim.Native.Nat.{_≤_, _<_, _+_, _-_}
+use mathlib.Core.Bool.{true, false}
+use mathlib.Core.List.{[]}
+use mathlib.Core.Logic.{⊎-elim}
+use mathlib.Core.Path.{_≡_, refl, ap, sym, _∙_}
+use lib.ListN.{length, take, drop}
+use native.Mathlib.Omega.{arith}
+use Rattle.keys.specs.Sort.{any}
+use Rattle.keys.proofs.Place.{unmapped}
+use Rattle.delta.specs.Table.{erased, rowAt}
+use Rattle.delta_encode.specs.Bytes.{outside}
+use Rattle.delta_encode.proofs.Any.{any-yes, any-no, any-end, outside-yes, outside-absent, outside-within}
+use borrow.Author.Needs.{needs}
 use Rattle.delta_encode.proofs.any_outside.Statement.{statement}
 use Rattle.delta_encode.proofs.any_outside.Tie as tie
 use Rattle.delta_encode.proofs.any_outside.Reads as reads
 use Rattle.delta_encode.proofs.any_outside.Lts as lts
 
 abbrev Inv-loop : tie.InvT-loop
-Inv-loop n t count limit i₀ i = ?
+Inv-loop n t count limit i₀ i = (i ≤ count) × (length (t .rows) ≡ 256) × (any (outside n) (take count (t .rows)) ≡ any (outside n) (drop i (take count (t .rows))))
 
 abbrev μ-loop : tie.MeasureT-loop
-μ-loop n t count limit i₀ i = ?
+μ-loop n t count limit i₀ i = count - i
 
--- src/lib.rt:39:5
 loop-holds : tie.Need-loop-holds Inv-loop μ-loop
-loop-holds c = ?
+loop-holds c = (omega arith, search (needs, unmapped), refl)
 
--- src/lib.rt:40:19
 mul-row : tie.Need-mul-row Inv-loop μ-loop
-mul-row c = ?
+mul-row c = search needs
 
--- src/lib.rt:40:19
 element-copy-out-row : tie.Need-element-copy-out-row Inv-loop μ-loop
-element-copy-out-row c = ?
+element-copy-out-row c = search needs
 
--- src/lib.rt:43:17
 returns : tie.Need-returns Inv-loop μ-loop
-returns c = ?
+returns c =
+    let b = c .before .before .before .before .before in
+    let a = b .before .args in
+    let y = outside-yes (a .n) (rowAt (a .t1) (b .loop .i)) (c .before .before .if1 .taken) (omega (arith, c .if2 .taken)) in
+    sym (b .loop .inv .2 ∙ any-yes (outside (a .n)) (a .t1 .rows) (a .t1 .count) (b .loop .i) (omega arith) (erased []) (omega arith) y)
 
--- src/lib.rt:45:37
 cast-if3 : tie.Need-cast-if3 Inv-loop μ-loop
-cast-if3 c = ?
+cast-if3 c = search needs
 
--- src/lib.rt:46:17
 returns-2 : tie.Need-returns-2 Inv-loop μ-loop
-returns-2 c = ?
+returns-2 c =
+    let b = c .before .before .before .before .before .before .before .before in
+    let a = b .before .args in
+    let y = outside-yes (a .n) (rowAt (a .t1) (b .loop .i)) (c .before .before .before .before .before .if1 .taken) (omega (arith, c .if3 .taken)) in
+    sym (b .loop .inv .2 ∙ any-yes (outside (a .n)) (a .t1 .rows) (a .t1 .count) (b .loop .i) (omega arith) (erased []) (omega arith) y)
 
--- src/lib.rt:49:9
 add-i : tie.Need-add-i Inv-loop μ-loop
-add-i c = ?
+add-i c = search needs
 
--- src/lib.rt:39:5
 loop-less : tie.Need-loop-less Inv-loop μ-loop
-loop-less c = ?
+loop-less c = search needs
 
--- src/lib.rt:39:5
 loop-again : tie.Need-loop-again Inv-loop μ-loop
-loop-again c = ?
+loop-again c =
+    let b = c .before .before .before in
+    let a = b .before .args in
+    let y : outside (a .n) (rowAt (a .t1) (b .loop .i)) ≡ false =
+    ⊎-elim
+    (λ w. outside-within (a .n) (rowAt (a .t1) (b .loop .i)) (w .0 .taken) (omega (arith, w .2 .left, w .5 .left)))
+    (λ w. outside-absent (a .n) (rowAt (a .t1) (b .loop .i)) (w .left))
+    (c .if1 .came) in
+    (omega arith, b .loop .inv .1,
+    b .loop .inv .2 ∙ any-no (outside (a .n)) (a .t1 .rows) (a .t1 .count) (b .loop .i) (omega arith) (erased []) (omega arith) y)
 
--- src/lib.rt:32:1
 returns-3 : tie.Need-returns-3 Inv-loop μ-loop
-returns-3 c = ?
+returns-3 c =
+    let b = c .before in
+    let a = b .before .args in
+    sym (b .loop .inv .2 ∙ any-end (outside (a .n)) (a .t1 .rows) (a .t1 .count) (b .loop .i) (omega arith) (c .loop-test .left))
 
 pub any-outside-spec : {M : Type 1} → statement M
 any-outside-spec =

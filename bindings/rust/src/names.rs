@@ -1,0 +1,25 @@
+//! Names of segment files: prefix, a dot, ten digits, `.log`.
+use crate::{calls, Refusal};
+
+const AFTER_PREFIX: usize = 15;
+
+/// The name of a segment; refuses with 30.
+///
+/// ```
+/// use iflughan::{names, Refusal};
+///
+/// assert_eq!(names::write("rollback", 1)?, "rollback.0000000001.log");
+/// assert_eq!(names::parse("rollback", "rollback.0000000001.log"), Ok(1));
+/// assert_eq!(names::parse("rollback", "rollback.4294967296.log"), Err(Refusal::NotU32));
+/// # Ok::<(), Refusal>(())
+/// ```
+pub fn write(prefix: &str, id: u32) -> Result<String, Refusal> {
+    let mut name = vec![0; prefix.len() + AFTER_PREFIX];
+    calls::name_write(prefix.as_bytes(), id, &mut name)?;
+    Ok(String::from_utf8(name).expect("the prefix, and ASCII after it"))
+}
+
+/// The id of the segment that has this name; refuses with 30 to 35.
+pub fn parse(prefix: &str, name: &str) -> Result<u32, Refusal> {
+    calls::name_parse(prefix.as_bytes(), name.as_bytes())
+}

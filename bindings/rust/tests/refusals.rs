@@ -1,0 +1,141 @@
+//! What is refused comes back as document 01's refusal, and nothing has changed.
+use iflughan::delta::{self, Entry};
+use iflughan::{calls, names, Log, Refusal, Row, Shape};
+
+const SHAPE: Shape = Shape {
+    slots: 2,
+    capacity: 8192,
+    soft_size: 8192,
+};
+
+fn two_records() -> Log {
+    let mut log = Log::new(SHAPE).unwrap();
+    log.append(b"").unwrap();
+    log.append(b"abc").unwrap();
+    log
+}
+
+#[test]
+fn refusal_1_shape_outside_the_rules() {
+    for (slots, capacity, soft_size) in [
+        (0, 8192, 0),
+        (65, 4096, 0),
+        (2, 4097, 0),
+        (2, 4096, 4097),
+        (64, 1 << 32, 0),
+        (u64::MAX, u64::MAX, 0),
+    ] {
+        let refused = Log::new(Shape {
+            slots,
+            capacity,
+            soft_size,
+        });
+        assert_eq!(refused, Err(Refusal::OutsideRules));
+    }
+}
+
+#[test]
+fn refused_appends_and_prunes_change_nothing() {
+    let mut log = two_records();
+    let before = log.clone();
+    assert_eq!(log.append(&[0; 8192]), Err(Refusal::RecordTooLong));
+    assert_eq!(log.prune_oldest(3), Err(Refusal::PruneAboveLiveEnd));
+    assert_eq!(log.prune_recent(3), Err(Refusal::PruneAboveLiveEnd));
+    assert_eq!(log, before);
+
+    log.prune_oldest(2).unwrap();
+    assert_eq!(log.prune_recent(1), Err(Refusal::PruneBelowLiveStart));
+}
+
+#[test]
+fn refused_recovery_hands_the_area_back() {
+    let log = two_records();
+    for (s, e, refusal) in [
+        (0, 2, Refusal::OneEndZero),
+        (2, 1, Refusal::StartAboveEnd),
+        (3, 3, Refusal::StartNotFound),
+        (1, 3, Refusal::EndNotFound),
+        (1, u64::MAX, Refusal::EndNotFound),
+    ] {
+        let refused = Log::recover(SHAPE, log.area().to_vec(), &log.images(), s, e).unwrap_err();
+        assert_eq!(refused.refusal, refusal);
+        assert_eq!(refused.area, log.area());
+    }
+}
+
+#[test]
+fn refusals_2_23_and_24_of_the_plain_calls() {
+    let log = two_records();
+    let mut area = log.area().to_vec();
+    let mut index = [7; 7];
+    let short = calls::recover(SHAPE, &mut area, &log.images(), 1, 2, &mut index);
+    assert_eq!((short, index), (Err(Refusal::IndexShort), [7; 7]));
+
+    let row = Row {
+        id: 1,
+        slot: 2,
+        offset: 0,
+        length: 0,
+    };
+    assert_eq!(
+        calls::row_question(log.value(), &area, row),
+        Err(Refusal::RowOutside)
+    );
+    assert_eq!(
+        calls::payload(log.value(), &area, row),
+        Err(Refusal::RowOutside)
+    );
+    assert_eq!(
+        calls::row_question(log.value(), &area, log.rows()[0]),
+        Ok(())
+    );
+
+    let mut made_up = *log.value();
+    made_up.count = u64::MAX;
+    assert_eq!(
+        calls::append(&made_up, &mut area, b""),
+        Err(Refusal::NotWellShaped)
+    );
+}
+
+#[test]
+fn refusals_of_deltas() {
+    let entry = |key: u8| Entry {
+        key: [key; 32],
+        value: None,
+    };
+    let too_many: Vec<Entry> = (0..=256).map(|i| entry(i as u8)).collect();
+    assert_eq!(delta::encode(&too_many), Err(Refusal::TableOutside));
+    assert_eq!(
+        delta::encode(&[entry(1), entry(1)]),
+        Err(Refusal::DuplicateKey)
+    );
+    assert_eq!(delta::decode(&[1, 0, 0, 0]), Err(Refusal::InputEndsEarly));
+    assert_eq!(delta::decode(&[1, 1, 0, 0]), Err(Refusal::TooManyKeys));
+    assert_eq!(delta::encode(&[]), Ok(vec![0; 8]));
+}
+
+#[test]
+fn refusals_of_names() {
+    assert_eq!(names::write("", 1), Err(Refusal::EmptyPrefix));
+    assert_eq!(
+        calls::name_write(b"a", 1, &mut [0; 15]),
+        Err(Refusal::NameBufferShort)
+    );
+    for (name, refusal) in [
+        ("b.0000000001.log", Refusal::PrefixMissing),
+        ("a.0000000001", Refusal::SuffixMissing),
+        ("a0000000001.log", Refusal::DotMissing),
+        ("a.1.log", Refusal::NotTenBytes),
+        ("a.000000000x.log", Refusal::NotU32),
+    ] {
+        assert_eq!(names::parse("a", name), Err(refusal));
+    }
+}
+
+#[test]
+fn numbers_and_refusals_go_both_ways() {
+    for refusal in Refusal::ALL {
+        assert_eq!(Refusal::from_number(refusal.number()), Some(*refusal));
+    }
+}

@@ -1,0 +1,129 @@
+-- Tables with the same rows in another order are encoded to the same bytes; and a decoded table, encoded over its input, decodes to the same.
+-- Assumes nothing.
+use Prim.Native.Nat.{ℕ, zero, suc, _+_, _<_, _≤_}
+use mathlib.Core.Bool.{Bool, true, false, _||_}
+use mathlib.Core.List.{List, [], _∷_, _++_, List·Permᴰ, Permᴰ·symm}
+use mathlib.Core.Path.{_≡_, refl, ap, sym, subst, _∙_}
+use lib.ListN.{length}
+use lib.Dec.{ltb}
+use native.Mathlib.Omega.{arith}
+use borrow.Author.Tests.{le-ltb}
+use Rattle.lists.specs.Choice.{pick}
+use Rattle.keys.specs.Sort.{sortBy, clash, any, Every, Ascending}
+use Rattle.keys.proofs.Sorting.{perm-any, perm-every, perm-length, perm-clash, sort-perm, sort-order, sort-unique, ascending-sort, ascending-clash}
+use mathlib.Core.List.{Permᴰ·refl}
+use Rattle.delta.specs.Table.{rowKey, rowsOf, tableOf}
+use Rattle.delta.specs.Reading.{reading, decodedOf}
+use Rattle.delta.specs.declared.Row.{Row}
+use Rattle.delta.specs.declared.Table.{Table}
+use Rattle.delta.specs.declared.Decoded.{Decoded}
+use Rattle.delta.specs.declared.Decoding.the-variants.{Consumed}
+use Rattle.delta.proofs.Plain.{rows-table}
+use Rattle.delta.proofs.Unwound.{rowsIn, Good, accepted-good, Bytes, Sound, sound-read, count-read}
+use Rattle.delta_encode.specs.Bytes.{outside, deltaBytes, bytesOf, encodedOf, written, afterOf, Keyed}
+use Rattle.delta_encode.specs.Entries.{entries, Small, Shaped}
+use Rattle.delta_encode.specs.declared.Encoded.{Encoded}
+use Rattle.delta_encode.specs.declared.Encoded.the-variants.{Written, Outside, Duplicate, Short}
+use Rattle.delta_encode.proofs.RoundTrip.{GivesBack, encode-decode}
+
+-- two tables with the same rows, up to their order
+pub record SameRows (t u : Table) : Type 0 where
+  pub count : t .count ≡ u .count
+  pub rows : List·Permᴰ (rowsOf t) (rowsOf u)
+
+-- they are encoded to the same bytes, and refused alike
+pub encode-order : (most : ℕ) (t u : Table) (v out : List ℕ) → SameRows t u → (encodedOf most t v out ≡ encodedOf most u v out) × (afterOf most t v out ≡ afterOf most u v out)
+unfolding encodedOf
+encode-order most t u v out w = go (clash rowKey (rowsOf t)) refl
+  where
+    few : ltb most (t .count) ≡ ltb most (u .count)
+    few = ap (ltb most) (w .count)
+
+    inside : any (outside (length v)) (rowsOf t) ≡ any (outside (length v)) (rowsOf u)
+    inside = perm-any (outside (length v)) (w .rows)
+
+    once : clash rowKey (rowsOf t) ≡ clash rowKey (rowsOf u)
+    once = perm-clash rowKey (w .rows)
+
+    -- a key twice: a refusal before the bytes count, whichever they are
+    refused : (x y : Bool) (bt bu : List ℕ)
+        → written (pick x Outside (pick y Outside Duplicate)) bt out ≡ written (pick x Outside (pick y Outside Duplicate)) bu out
+    refused true y bt bu = refl
+    refused false true bt bu = refl
+    refused false false bt bu = refl
+
+    go : (b : Bool) → clash rowKey (rowsOf t) ≡ b → (encodedOf most t v out ≡ encodedOf most u v out) × (afterOf most t v out ≡ afterOf most u v out)
+    go true c =
+        let d : clash rowKey (rowsOf u) ≡ true = sym once ∙ c in
+        (rw (few, inside, c, d), rw (few, inside, c, d) (refused (ltb most (u .count)) (any (outside (length v)) (rowsOf u)) (bytesOf t v) (bytesOf u v)))
+    go false c =
+        let b : bytesOf t v ≡ bytesOf u v = ap (deltaBytes v) (sort-order rowKey (rowsOf t) (rowsOf u) c (w .rows)) in
+        (rw (few, inside, once, b), rw (few, inside, once, b))
+
+-- what is known of each of several rows
+every-map : (P Q : Row → Type 0) (xs : List Row) → ((r : Row) → P r → Q r) → Every P xs → Every Q xs
+every-map P Q [] f h = tt
+every-map P Q (x ∷ xs) f h = (f x (h .0), every-map P Q xs f (h .1))
+
+-- rows whose values lie inside
+none-outside : (s : List ℕ) (xs : List Row) → Every (Sound s) xs → any (outside (length s)) xs ≡ false
+unfolding any
+none-outside s [] h = refl
+none-outside s (x ∷ xs) h = rw (one (x .present) refl) (none-outside s xs (h .1))
+  where
+    one : (b : Bool) → x .present ≡ b → outside (length s) x ≡ false
+    one true p = rw (p, le-ltb (length s) (x .offset + x .length) (h .0 .inside p))
+    one false p = rw p
+
+module _ (s : List ℕ) (b : Bytes s) (n : ℕ) (t : Table) (e : decodedOf 256 s ≡ record { answer = Consumed n; table = t }) where
+  good : Good 256 s n
+  good = accepted-good 256 s n (ap (λ (d : Decoded). d .answer) e)
+
+  read : List Row
+  read = rowsIn (reading 256 s)
+
+  table-is : t ≡ tableOf (sortBy rowKey read)
+  unfolding read
+  table-is = sym (ap (λ (d : Decoded). d .table) e) ∙ ap (λ (d : Decoded). d .table) (good .is)
+
+  rows-are : rowsOf t ≡ sortBy rowKey read
+  rows-are = ap rowsOf table-is ∙ rows-table (sortBy rowKey read)
+
+  sound : Every (Sound s) (rowsOf t)
+  unfolding read
+  sound =
+      subst (λ (xs : List Row). Every (Sound s) xs) (sym rows-are)
+      (perm-every (Sound s) (Permᴰ·symm (sort-perm rowKey (rowsIn (reading 256 s)))) (sound-read 256 s b))
+
+  rises : Ascending rowKey (rowsOf t)
+  unfolding read
+  rises = subst (λ (xs : List Row). Ascending rowKey xs) (sym rows-are) (ascending-sort rowKey (rowsIn (reading 256 s)) (good .once))
+
+  shaped : Shaped t
+  shaped =
+      record {
+        keyed = every-map (Sound s) (λ r. length (r .key) ≡ 32) (rowsOf t) (λ r h. h .keyed) sound;
+        small = every-map (Sound s) (λ r. r .length < 4294967296) (rowsOf t) (λ r h. h .small) sound;
+      }
+
+  few : t .count ≤ 256
+  unfolding read
+  few =
+      let c : t .count ≡ length (sortBy rowKey (rowsIn (reading 256 s))) = ap (λ (u : Table). u .count) table-is in
+      let l = perm-length (sort-perm rowKey (rowsIn (reading 256 s))) in
+      let m = count-read 256 s in
+      omega arith
+
+  -- a decoded table is accepted over its input, where there is room
+  pub decode-encode : (out : List ℕ) → length (bytesOf t s) ≤ length out → encodedOf 256 t s out ≡ Written (length (bytesOf t s))
+  unfolding encodedOf
+  decode-encode out h =
+      rw (le-ltb 256 (t .count) few, none-outside s (rowsOf t) sound, ascending-clash rowKey (rowsOf t) rises, le-ltb (length out) (length (bytesOf t s)) h)
+
+  -- and decodes to the same keys, marks and value bytes, with anything behind it
+  pub decode-encode-decode : (out rest : List ℕ) → length (bytesOf t s) ≤ length out
+      → GivesBack (entries s (rowsOf t)) (length (bytesOf t s)) (bytesOf t s ++ rest) (decodedOf 256 (bytesOf t s ++ rest))
+  decode-encode-decode out rest h =
+      subst (λ (xs : List Row). GivesBack (entries s xs) (length (bytesOf t s)) (bytesOf t s ++ rest) (decodedOf 256 (bytesOf t s ++ rest)))
+      (sort-unique rowKey (rowsOf t) (rowsOf t) rises (Permᴰ·refl (rowsOf t)))
+      (encode-decode t s out rest (length (bytesOf t s)) shaped (decode-encode out h))

@@ -1,0 +1,11 @@
+pub mod StepCases
+pub mod RecordCases
+pub mod ImageCases
+pub mod RowWords
+pub mod Count
+pub mod RowIds
+pub mod Depend
+mod ImagesTurn
+mod RowsTurn
+mod ScanCases
+pub mod Unique

@@ -1,0 +1,131 @@
+-- A turn of each loop of the second pass, on plain values. The words so far are the index's first `at`.
+-- Assumes nothing.
+use mathlib.Core.Path.{_≡_, refl, sym, ap, _∙_}
+use mathlib.Core.List.{List, [], _∷_, _++_}
+use mathlib.Core.Bool.{Bool, true}
+use Prim.Native.Nat.{ℕ, suc, _+_, _-_, _≤_, _<_}
+use native.Mathlib.Numerals.{add-one}
+use native.Mathlib.Omega.{arith}
+use lib.ListN.{length, take, drop, length-take, length-append, take-append-drop, drop-of-length-le}
+use lib.Seq.{drop-cons, drop-drop, getD-take, length-take-le}
+use Rattle.recovery_walk.specs.declared.ImageRow.{ImageRow}
+use Rattle.recovery_walk.specs.declared.Scan.{Scan}
+use Rattle.recovery_walk.specs.declared.Step.the-variants.{Next}
+use Rattle.recovery_walk.specs.Step.{liveOf, moreOf, recordStep}
+use Rattle.recovery_walk.specs.Images.{openedOf, rowAt, noRow}
+use Rattle.recovery_walk.specs.Rows.{rowOf, Pen, penOf, movedOf, rowsIn, rowsAll, RowPut}
+use Rattle.recovery_walk.proofs.StepCases.{step-counts}
+use Rattle.recovery_walk.proofs.RowWords.{rows-next, rows-grow, all-grow, put-long, put-take, put-drop}
+use Rattle.recovery_walk.proofs.ImagesTurn.{partOf, part-image}
+
+-- the words that stand in the index before `at`, and a state
+abbrev pub penAt : List ℕ → ℕ → Scan → Pen
+penAt index at scan = record { words = take at index; scan = scan }
+
+-- what holds at the head of the records' loop
+pub record AtRows (img : List ℕ) (slot s e : ℕ) (index₀ : List ℕ) (at₀ : ℕ) (scan₀ : Scan) (index : List ℕ) (at : ℕ) (scan : Scan) : Type 0 where
+  pub long : length index ≡ length index₀
+  pub upto : at ≤ length index
+  pub later : at₀ ≤ at
+  pub kept : drop at index ≡ drop at index₀
+  pub counted : scan .live ≤ scan .last
+  pub so-far : rowsIn img slot s e (penAt index₀ at₀ scan₀) ≡ rowsIn img slot s e (penAt index at scan)
+
+-- what holds at the head of the images' loop
+pub record AtAll (area : List ℕ) (n k s e : ℕ) (rows : List ImageRow) (index₀ index : List ℕ) (at : ℕ) (scan : Scan) (i : ℕ) : Type 0 where
+  pub upto : i ≤ k
+  pub long : length index ≡ length index₀
+  pub within : at ≤ length index
+  pub kept : drop at index ≡ drop at index₀
+  pub counted : scan .live ≤ scan .last
+  pub so-far : rowsAll area n s e (take k rows) penOf ≡ rowsAll area n s e (drop i (take k rows)) (penAt index at scan)
+
+-- lists that agree from a place on agree from a later one on
+pub drop-later : (l m : List ℕ) (a b : ℕ) → a ≤ b → drop a l ≡ drop a m → drop b l ≡ drop b m
+drop-later l m a b h e =
+    let j : a + (b - a) ≡ b = omega arith in
+    ap (λ (x : ℕ). drop x l) (sym j) ∙ sym (drop-drop (b - a) a l) ∙ ap (drop (b - a)) e ∙ drop-drop (b - a) a m ∙ ap (λ (x : ℕ). drop x m) j
+
+module _ (img : List ℕ) (slot s e : ℕ) (index₀ : List ℕ) (at₀ : ℕ) (scan₀ : Scan) (index : List ℕ) (at : ℕ) (scan : Scan)
+    (h : AtRows img slot s e index₀ at₀ scan₀ index at scan) (d : Scan) (going : moreOf scan (length img) ≡ true)
+    (step : recordStep img s e scan ≡ Next d) (live : Bool) (is : live ≡ liveOf s e (d .last)) where
+  to : rowsIn img slot s e (penAt index₀ at₀ scan₀) ≡ rowsIn img slot s e (movedOf slot s e (penAt index at scan) d)
+  to = h .so-far ∙ rows-next img slot s e (penAt index at scan) d going step
+
+  -- there is room for the row where there is room for all
+  pub row-room : length (rowsIn img slot s e (penAt index₀ at₀ scan₀) .words) ≤ length index
+      → at + length (rowOf live (d .last) slot (d .body) (d .len)) ≤ length index
+  unfolding movedOf
+  row-room all =
+      rw is (omega (
+        arith,
+        rows-grow img slot s e (movedOf slot s e (penAt index at scan) d),
+        ap (λ (x : Pen). length (x .words)) to,
+        length-append (take at index) (rowOf (liveOf s e (d .last)) (d .last) slot (d .body) (d .len)),
+        length-take-le at index (h .upto),
+      ))
+
+  -- a record's turn
+  pub row-next : (m : List ℕ) (r : ℕ) → at + length (rowOf live (d .last) slot (d .body) (d .len)) ≤ length index
+      → RowPut index at (rowOf live (d .last) slot (d .body) (d .len)) m r → AtRows img slot s e index₀ at₀ scan₀ m r d
+  unfolding movedOf
+  row-next m r room put =
+      let len-m : length m ≡ length index = put-long index at _ m r room put in
+      record {
+        long = len-m ∙ h .long;
+        upto = omega (arith, put .next);
+        later = omega (arith, put .next, h .later);
+        kept = put-drop index at _ m r room put ∙ drop-later index index₀ at r (omega (arith, put .next)) (h .kept);
+        counted = step-counts img s e scan d step (h .counted);
+        so-far = rw (put-take index at _ m r room put, is) to;
+      }
+
+module _ (area : List ℕ) (n k s e : ℕ) (rows : List ImageRow) (index₀ index : List ℕ) (at : ℕ) (scan : Scan) (i : ℕ) (few : k ≤ 64)
+    (all : length rows ≡ 64) (h : AtAll area n k s e rows index₀ index at scan i) where
+  abbrev total : List ℕ
+  total = rowsAll area n s e (take k rows) penOf
+
+  -- the end: all words stand at the front, and the rest of the index is as it was
+  pub rows-done : k ≤ i → index ≡ total ++ drop (length total) index₀
+  unfolding rowsAll
+  rows-done g =
+      let same : i ≡ k = omega (arith, h .upto) in
+      let is : total ≡ take at index =
+      h .so-far ∙ ap (λ (l : List ImageRow). rowsAll area n s e l (penAt index at scan)) (drop-of-length-le (take k rows) {i = i} (rw length-take (omega arith))) in
+      let count : at ≡ length total = sym (ap length is ∙ length-take-le at index (h .within)) in
+      rw (← count, is) (sym (take-append-drop at index) ∙ ap (λ (l : List ℕ). take at index ++ l) (h .kept))
+
+  module _ (more : i < k) (from : Scan) (is : from ≡ openedOf scan) where
+    abbrev row : ImageRow
+    row = rowAt rows i
+
+    turn : total ≡ rowsAll area n s e (drop (suc i) (take k rows)) (rowsIn (partOf area n row) (row .slot) s e (penAt index at from))
+    unfolding rowsAll
+    turn =
+        h .so-far
+        ∙ ap (λ (l : List ImageRow). rowsAll area n s e l (penAt index at scan))
+        (drop-cons (take k rows) i noRow (rw length-take (omega arith)) ∙ ap (λ (r : ImageRow). r ∷ drop (suc i) (take k rows)) (getD-take k rows i noRow more))
+        ∙ rw (part-image, is) refl
+
+    -- room for all words is room for the image's
+    pub image-room : length total ≤ length index₀ → length (rowsIn (partOf area n row) (row .slot) s e (penAt index at from) .words) ≤ length index
+    image-room l =
+        omega (
+          arith,
+          all-grow area n s e (drop (suc i) (take k rows)) (rowsIn (partOf area n row) (row .slot) s e (penAt index at from)),
+          ap length turn,
+          h .long,
+        )
+
+    -- an image's turn
+    pub image-next : (m : List ℕ) (r : ℕ) (d : Scan) → AtRows (partOf area n row) (row .slot) s e index at from m r d
+        → rowsIn (partOf area n row) (row .slot) s e (penAt m r d) ≡ penAt m r d → AtAll area n k s e rows index₀ m r d (i + 1)
+    image-next m r d g q =
+        record {
+          upto = omega arith;
+          long = g .long ∙ h .long;
+          within = g .upto;
+          kept = g .kept ∙ drop-later index index₀ at r (g .later) (h .kept);
+          counted = g .counted;
+          so-far = rw add-one (turn ∙ ap (rowsAll area n s e (drop (suc i) (take k rows))) (g .so-far ∙ q));
+        }

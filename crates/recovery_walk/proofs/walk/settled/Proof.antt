@@ -1,0 +1,18 @@
+-- `walk::settled` meets its contract: one test.
+-- Assumes nothing.
+use borrow.Author.Tests.{eq-eqb, ne-eqb}
+use borrow.Author.Needs.{needs}
+use Rattle.recovery_walk.proofs.walk.settled.Statement.{statement}
+use Rattle.recovery_walk.proofs.walk.settled.Tie as tie
+
+refusal-requires : tie.Need-refusal-requires
+refusal-requires c κs = search needs
+
+returns : tie.Need-returns
+returns c = rw (ne-eqb _ _ (c .before .if1 .taken)) (c .refusal .ensures)
+
+returns-2 : tie.Need-returns-2
+returns-2 c = simp (eq-eqb _ _ (c .if1 .left)) (cc)
+
+pub settled-spec : {M : Type 1} → statement M
+settled-spec = tie.close (tie.spec refusal-requires returns returns-2)

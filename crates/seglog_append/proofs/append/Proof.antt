@@ -1,0 +1,286 @@
+-- `append` meets its contract: each return is a way of its definition, and both ways to a segment meet in one place to write to.
+-- Assumes nothing.
+use mathlib.Core.Path.{_≡_, refl, sym, ap, _∙_}
+use mathlib.Core.List.{List}
+use Prim.Native.Nat.{ℕ, _+_, _-_, _≤_, _<_}
+use native.Mathlib.Omega.{arith}
+use mathlib.Core.Logic.{⊎-elim}
+use lib.ListN.{length, getD, take}
+use borrow.Author.Tests.{not-true, not-false}
+use Rattle.record.specs.Record.{recordRoom}
+use Rattle.seglog.proofs.View.{unmapped}
+use Rattle.seglog_append.proofs.Ways.{
+  Past,
+  Spot,
+  fit,
+  shaped,
+  way-2,
+  way-3,
+  way-4,
+  way-5,
+  way-6,
+  way-7,
+  opens-by,
+  next-by,
+  by-new,
+  by-head,
+  done-answer,
+  done-area,
+  refused-answer,
+  refused-area,
+}
+use borrow.Author.Needs.{needs}
+use Rattle.seglog_append.proofs.append.Statement.{statement}
+use Rattle.seglog_append.proofs.append.Tie as tie
+use Rattle.seglog_append.proofs.append.Reads as reads
+use Rattle.seglog_append.proofs.append.Lts as lts
+use Rattle.page.proofs.writer_next_pos.Reads as writer-next-pos-reads
+use Rattle.seglog.proofs.fits.Reads as fits-reads
+use Rattle.seglog_append.proofs.gen_segment_id.Reads as gen-segment-id-reads
+use Rattle.seglog_append.proofs.last_of.Reads as last-of-reads
+use Rattle.seglog_append.proofs.lowest_free.Reads as lowest-free-reads
+use Rattle.seglog_append.proofs.opens.Reads as opens-reads
+use Rattle.seglog_append.proofs.refuse.Reads as refuse-reads
+use Rattle.seglog_append.proofs.stored.Reads as stored-reads
+use Rattle.segment_rw.proofs.append_record.Reads as append-record-reads
+
+-- behind refusal 4
+abbrev Behind4 : Type 0
+Behind4 = lts.Else3 (
+  fits-reads.Asked,
+  fits-reads.Learnt,
+  refuse-reads.Asked,
+  refuse-reads.Learnt,
+  last-of-reads.Asked,
+  last-of-reads.Learnt,
+  opens-reads.Asked,
+  opens-reads.Learnt,
+  gen-segment-id-reads.Asked,
+  gen-segment-id-reads.Learnt,
+  lowest-free-reads.Asked,
+  lowest-free-reads.Learnt,
+  writer-next-pos-reads.Asked,
+  writer-next-pos-reads.Learnt,
+  append-record-reads.Asked,
+  append-record-reads.Learnt,
+  stored-reads.Asked,
+  stored-reads.Learnt,
+) reads.Pre reads.Post
+
+-- what is known there
+past : (c : Behind4) → Past (c .before .before .before .before .before .before .args .t1) (c .before .before .before .before .before .before .args .area .now) (c .before .before .before .before .before .before .args .payload .now)
+past c = record {
+  long = search (needs, unmapped);
+  fits = sym (c .before .before .before .fits2 .ensures) ∙ not-false _ (c .before .before .if1 .left);
+  small = c .before .if2 .left;
+  more = c .if3 .left;
+}
+
+-- where both ways to a segment meet
+abbrev Met : Type 0
+Met = lts.Joined4 (
+  fits-reads.Asked,
+  fits-reads.Learnt,
+  refuse-reads.Asked,
+  refuse-reads.Learnt,
+  last-of-reads.Asked,
+  last-of-reads.Learnt,
+  opens-reads.Asked,
+  opens-reads.Learnt,
+  gen-segment-id-reads.Asked,
+  gen-segment-id-reads.Learnt,
+  lowest-free-reads.Asked,
+  lowest-free-reads.Learnt,
+  writer-next-pos-reads.Asked,
+  writer-next-pos-reads.Learnt,
+  append-record-reads.Asked,
+  append-record-reads.Learnt,
+  stored-reads.Asked,
+  stored-reads.Learnt,
+) reads.Pre reads.Post
+
+-- where the record goes
+spot : (c : Met) → Spot (c .before .before .before .before .before .before .before .before .before .before .args .t1) (c .if4 .target) (c .if4 .at)
+spot c =
+    let a = c .before .before .before .before .before .before .before .before .before .before .args in
+    let k = past (c .before .before .before .before) in
+    ⊎-elim
+    (λ w.
+    by-new (a .t1) (a .area .now) (a .payload .now) (k .long) (k .fits) (c .if4 .target) (c .if4 .at) (w .1 .result) (w .3 .result)
+    (sym (opens-by (a .t1) (a .area .now) (a .payload .now) (k .long) (k .fits) _ (c .before .before .before .last-of .ensures) _ (c .before .opens .ensures)) ∙ w .0 .taken)
+    (next-by (a .t1) (a .area .now) (a .payload .now) (k .long) (k .fits) _ (c .before .before .before .last-of .ensures) _ (w .1 .ensures))
+    (w .2 .left) (w .3 .ensures) (w .4 .left) (w .5) (w .6))
+    (λ w.
+    by-head (a .t1) (a .area .now) (a .payload .now) (k .long) (k .fits) _ (c .before .before .before .last-of .ensures) (c .if4 .target) (c .if4 .at)
+    (sym (opens-by (a .t1) (a .area .now) (a .payload .now) (k .long) (k .fits) _ (c .before .before .before .last-of .ensures) _ (c .before .opens .ensures)) ∙ w .0 .left)
+    (w .1) (w .2))
+    (c .if4 .came)
+
+fits-requires : tie.Need-fits-requires
+fits-requires c κs = search needs
+
+refuse-requires : tie.Need-refuse-requires
+refuse-requires c κs = search needs
+
+returns : tie.Need-returns
+returns c =
+    let a = c .before .before .before .before .before .args in
+    let long : length (a .t1 .segs) ≡ 64 = search (needs, unmapped) in
+    let why = way-2 (a .t1) (a .area .now) (a .payload .now) long (sym (c .before .before .fits2 .ensures) ∙ not-true _ (c .before .if1 .taken)) in
+    (refused-answer (a .t1) 2 _ _ why (c .refuse .ensures), refused-area (a .area .now) 2 _ why)
+
+refuse-requires-2 : tie.Need-refuse-requires-2
+refuse-requires-2 c κs = search needs
+
+returns-2 : tie.Need-returns-2
+returns-2 c =
+    let a = c .before .before .before .before .before .before .args in
+    let long : length (a .t1 .segs) ≡ 64 = search (needs, unmapped) in
+    let why = way-3 (a .t1) (a .area .now) (a .payload .now) long (sym (c .before .before .before .fits2 .ensures) ∙ not-false _ (c .before .before .if1 .left)) (c .before .if2 .taken) in
+    (refused-answer (a .t1) 3 _ _ why (c .refuse2 .ensures), refused-area (a .area .now) 3 _ why)
+
+refuse-requires-3 : tie.Need-refuse-requires-3
+refuse-requires-3 c κs = search needs
+
+returns-3 : tie.Need-returns-3
+returns-3 c =
+    let a = c .before .before .before .before .before .before .before .args in
+    let long : length (a .t1 .segs) ≡ 64 = search (needs, unmapped) in
+    let why = way-4 (a .t1) (a .area .now) (a .payload .now) long (sym (c .before .before .before .before .fits2 .ensures) ∙ not-false _ (c .before .before .before .if1 .left)) (c .before .before .if2 .left) (c .before .if3 .taken) in
+    (refused-answer (a .t1) 4 _ _ why (c .refuse3 .ensures), refused-area (a .area .now) 4 _ why)
+
+add-id : tie.Need-add-id
+add-id c = search needs
+
+last-of-requires : tie.Need-last-of-requires
+last-of-requires c κs = search needs
+
+mul-target : tie.Need-mul-target
+mul-target c =
+    let a = c .before .before .before .before .before .before .before .args in
+    let k = past (c .before) in
+    let f = fit (a .t1) (a .area .now) (a .payload .now) (k .long) (k .fits) in
+    omega (arith, f .few, f .sizes .few-slots, c .last-of .ensures)
+
+element-copy-out-target : tie.Need-element-copy-out-target
+element-copy-out-target c =
+    let a = c .before .before .before .before .before .before .before .args in
+    let k = past (c .before) in
+    let f = fit (a .t1) (a .area .now) (a .payload .now) (k .long) (k .fits) in
+    omega (arith, f .few, f .sizes .few-slots, c .last-of .ensures)
+
+opens-requires : tie.Need-opens-requires
+opens-requires c κs = search needs
+
+gen-segment-id-requires : tie.Need-gen-segment-id-requires
+gen-segment-id-requires c κs = search needs
+
+refuse-requires-4 : tie.Need-refuse-requires-4
+refuse-requires-4 c κs = search needs
+
+returns-4 : tie.Need-returns-4
+returns-4 c =
+    let a = c .before .before .before .before .before .before .before .before .before .before .before .before .before .args in
+    let k = past (c .before .before .before .before .before .before .before) in
+    let why = way-5 (a .t1) (a .area .now) (a .payload .now) (k .long) (k .fits) (k .small) (k .more) (sym (opens-by (a .t1) (a .area .now) (a .payload .now) (k .long) (k .fits) _ (c .before .before .before .before .before .before .last-of .ensures) _ (c .before .before .before .before .opens .ensures)) ∙ c .before .before .before .if4 .taken)
+    (sym (next-by (a .t1) (a .area .now) (a .payload .now) (k .long) (k .fits) _ (c .before .before .before .before .before .before .last-of .ensures) _ (c .before .before .gen-segment-id .ensures)) ∙ c .before .if5 .taken) in
+    (refused-answer (a .t1) 5 _ _ why (c .refuse4 .ensures), refused-area (a .area .now) 5 _ why)
+
+lowest-free-requires : tie.Need-lowest-free-requires
+lowest-free-requires c κs =
+    let a = c .before .before .before .before .before .before .before .before .before .before .before .before .args in
+    let k = past (c .before .before .before .before .before .before) in
+    shaped (a .t1) (a .area .now) (a .payload .now) (k .long) (k .fits)
+
+cast-if6 : tie.Need-cast-if6
+cast-if6 c = search needs
+
+refuse-requires-5 : tie.Need-refuse-requires-5
+refuse-requires-5 c κs = search needs
+
+returns-5 : tie.Need-returns-5
+returns-5 c =
+    let a = c .before .before .before .before .before .before .before .before .before .before .before .before .before .before .before .args in
+    let k = past (c .before .before .before .before .before .before .before .before .before) in
+    let why = way-6 (a .t1) (a .area .now) (a .payload .now) (k .long) (k .fits) (k .small) (k .more) (sym (opens-by (a .t1) (a .area .now) (a .payload .now) (k .long) (k .fits) _ (c .before .before .before .before .before .before .before .before .last-of .ensures) _ (c .before .before .before .before .before .before .opens .ensures)) ∙ c .before .before .before .before .before .if4 .taken)
+    (λ z. c .before .before .before .if5 .left (next-by (a .t1) (a .area .now) (a .payload .now) (k .long) (k .fits) _ (c .before .before .before .before .before .before .before .before .last-of .ensures) _ (c .before .before .before .before .gen-segment-id .ensures) ∙ z)) (sym (c .before .before .lowest-free .ensures) ∙ c .before .if6 .taken) in
+    (refused-answer (a .t1) 6 _ _ why (c .refuse5 .ensures), refused-area (a .area .now) 6 _ why)
+
+sub-if7 : tie.Need-sub-if7
+sub-if7 c = omega (arith, spot (c .before) .size)
+
+cast-writer-next-pos : tie.Need-cast-writer-next-pos
+cast-writer-next-pos c = search needs
+
+add-writer-next-pos : tie.Need-add-writer-next-pos
+add-writer-next-pos c = search needs
+
+writer-next-pos-requires : tie.Need-writer-next-pos-requires
+writer-next-pos-requires c κs = search needs
+
+refuse-requires-6 : tie.Need-refuse-requires-6
+refuse-requires-6 c κs = search needs
+
+returns-6 : tie.Need-returns-6
+unfolding recordRoom
+returns-6 c =
+    let a = c .before .before .before .before .before .before .before .before .before .before .before .before .before .before .args in
+    let k = past (c .before .before .before .before .before .before .before .before) in
+    let why = way-7 (a .t1) (a .area .now) (a .payload .now) (k .long) (k .fits) (k .small) (k .more) (c .before .before .before .before .if4 .target) (c .before .before .before .before .if4 .at) (spot (c .before .before .before .before))
+    (omega (arith, c .before .if7 .taken, c .before .before .writer-next-pos .ensures)) in
+    (refused-answer (a .t1) 7 _ _ why (c .refuse6 .ensures), refused-area (a .area .now) 7 _ why)
+
+append-record-requires : tie.Need-append-record-requires
+append-record-requires c κs = search needs
+
+stored-requires : tie.Need-stored-requires
+stored-requires c κs = spot (c .before .before .before .before .before .before .before) .few
+
+same-length : tie.Need-same-length
+same-length c = search needs
+
+returns-7 : tie.Need-returns-7
+unfolding recordRoom
+returns-7 c =
+    let a = c .before .before .before .before .before .before .before .before .before .before .before .before .before .before .before .before .before .before .args in
+    let k = past (c .before .before .before .before .before .before .before .before .before .before .before .before) in
+    let wrote = c .before .before .before .append-record .ensures in
+    let room : recordRoom (length (a .payload .now)) ≤ a .t1 .c - c .before .before .before .before .before .before .before .before .if4 .target .size =
+    omega (arith, c .before .before .before .before .before .if7 .left, c .before .before .before .before .before .before .writer-next-pos .ensures) in (
+      done-answer (a .t1) (a .area .now) (a .payload .now) (k .long) (k .fits) (k .small) (k .more) (c .before .before .before .before .before .before .before .before .if4 .target) (c .before .before .before .before .before .before .before .before .if4 .at) (spot (c .before .before .before .before .before .before .before .before)) room _ _ wrote _ (c .stored .ensures),
+      done-area (a .t1) (a .area .now) (a .payload .now) (k .long) (k .fits) (k .small) (k .more) (c .before .before .before .before .before .before .before .before .if4 .target) (c .before .before .before .before .before .before .before .before .if4 .at) (spot (c .before .before .before .before .before .before .before .before)) room _ _ wrote,
+    )
+
+pub append-spec : {M : Type 1} → statement M
+append-spec =
+    tie.close
+    (tie.spec
+    fits-requires
+    refuse-requires
+    returns
+    refuse-requires-2
+    returns-2
+    refuse-requires-3
+    returns-3
+    add-id
+    last-of-requires
+    mul-target
+    element-copy-out-target
+    opens-requires
+    gen-segment-id-requires
+    refuse-requires-4
+    returns-4
+    lowest-free-requires
+    cast-if6
+    refuse-requires-5
+    returns-5
+    sub-if7
+    cast-writer-next-pos
+    add-writer-next-pos
+    writer-next-pos-requires
+    refuse-requires-6
+    returns-6
+    append-record-requires
+    stored-requires
+    same-length
+    returns-7)

@@ -1,0 +1,244 @@
+//! Inputs for the comparison of logs: shapes, payload lengths, segment images and every kind of damage to them.
+//! A set of images is what a folder holds: an id and the bytes of each segment.
+
+use crate::ffi::Shape;
+use crate::log_model::{padded, record_places};
+use crate::rng::Rng;
+
+const PAGE: u64 = 4096;
+const GIBIBYTE: u64 = 1 << 30;
+
+#[derive(Clone, Debug)]
+pub struct SegmentFile {
+    pub id: u32,
+    pub bytes: Vec<u8>,
+}
+
+/// Small slots are the most frequent: they meet every border, and fast.
+pub fn shape(rng: &mut Rng) -> Shape {
+    let c = PAGE * rng.pick_number(&[1, 1, 2, 2, 2, 3, 4, 4, 8, 16]);
+    Shape { k: rng.pick_number(&[1, 2, 2, 3, 3, 4, 5, 6, 8]), c, m: soft_size(rng, c) }
+}
+
+pub fn soft_size(rng: &mut Rng, c: u64) -> u64 {
+    match rng.below(6) {
+        0 => 0,
+        1 => c,
+        2 => rng.pick_number(&[1, PAGE - 1, PAGE, (PAGE + 1).min(c), c - 1]),
+        _ => rng.below(c + 1),
+    }
+}
+
+pub fn payload_length(rng: &mut Rng, c: u64) -> u64 {
+    match rng.below(16) {
+        0..=3 => rng.pick_number(&[0, 1, 3, 12, 100]),
+        4 | 5 => rng.pick_number(&[4083, 4084, 4085, 8179, 8180, 8181]),
+        6 => c - rng.range(10, 13),
+        7 => rng.below(2 * c),
+        _ => rng.below(600),
+    }
+}
+
+/// A record id for `place`: a segment's border, an end of the live range, or one beside it.
+pub fn record_id(rng: &mut Rng, start: u64, end: u64, segment_borders: &[u64]) -> u64 {
+    match rng.below(12) {
+        0 => start.wrapping_sub(rng.range(1, 2)),
+        1 => end.wrapping_add(rng.range(1, 2)),
+        2 => rng.pick_number(&[1, u64::MAX, u64::MAX - 1, start ^ 1 << 32, end ^ 1 << 32]),
+        3 if rng.once_in(3) => 0,
+        4..=6 if !segment_borders.is_empty() => rng.pick_number(segment_borders),
+        7 => start,
+        8 => end,
+        _ => start + rng.below((end - start).saturating_add(1).max(1)),
+    }
+}
+
+/// Images that no log wrote: a run of records from any id on, over segments from any id on.
+pub fn synthetic(rng: &mut Rng, shape: Shape) -> Vec<SegmentFile> {
+    let mut record = match rng.below(4) {
+        0 => 1,
+        1 => u64::MAX - rng.below(8),
+        2 => (1 << 32) - rng.below(4),
+        _ => rng.range(1, 1000),
+    };
+    let mut id = match rng.below(4) {
+        0 => u32::MAX - rng.below(4) as u32,
+        1 => rng.next() as u32,
+        _ => rng.range(1, 20) as u32,
+    };
+    let mut files = Vec::new();
+    for _ in 0..rng.range(1, shape.k) {
+        let mut bytes = Vec::new();
+        for _ in 0..rng.range(1, 4) {
+            let length = if rng.once_in(8) { rng.below(shape.c) } else { rng.below(300) };
+            if bytes.len() as u64 + padded(12 + length) <= shape.c {
+                add_record(rng, &mut bytes, record, length as usize);
+                record = record.wrapping_add(1);
+            }
+        }
+        files.push(SegmentFile { id, bytes });
+        id = id.wrapping_add(1);
+    }
+    files
+}
+
+fn add_record(rng: &mut Rng, bytes: &mut Vec<u8>, id: u64, length: usize) {
+    let start = bytes.len();
+    bytes.extend_from_slice(&(length as u32).to_le_bytes());
+    bytes.extend_from_slice(&id.to_le_bytes());
+    bytes.resize(start + 12 + length, rng.next() as u8);
+    bytes.resize(start + padded(12 + length as u64) as usize, if rng.once_in(8) { 0xDD } else { 0 });
+}
+
+fn some_file(rng: &mut Rng, files: &[SegmentFile]) -> usize {
+    rng.below(files.len() as u64) as usize
+}
+
+fn some_record(rng: &mut Rng, bytes: &[u8]) -> Option<usize> {
+    let places = record_places(bytes);
+    match places.len() as u64 {
+        0 => None,
+        count => Some(places[rng.below(count) as usize]),
+    }
+}
+
+fn id_at(bytes: &[u8], at: usize) -> u64 {
+    let mut word = [0; 8];
+    word.copy_from_slice(&bytes[at + 4..at + 12]);
+    u64::from_le_bytes(word)
+}
+
+fn length_at(bytes: &[u8], at: usize) -> u64 {
+    u32::from_le_bytes([bytes[at], bytes[at + 1], bytes[at + 2], bytes[at + 3]]) as u64
+}
+
+/// Damages one field or bit of one header.
+pub fn damage_header(rng: &mut Rng, bytes: &mut [u8]) {
+    let at = match some_record(rng, bytes) {
+        None => return,
+        Some(at) => at,
+    };
+    let (id, length, rest) = (id_at(bytes, at), length_at(bytes, at), (bytes.len() - at - 12) as u64);
+    match rng.below(3) {
+        0 => bytes[at + rng.below(12) as usize] ^= 1 << rng.below(8),
+        1 => {
+            let id = rng.pick_number(&[0, 1, id.wrapping_sub(1), id.wrapping_add(1), id ^ 1 << 32, id ^ 1 << 63, u64::MAX]);
+            bytes[at + 4..at + 12].copy_from_slice(&id.to_le_bytes());
+        }
+        _ => {
+            let far = rng.pick_number(&[GIBIBYTE - 1, GIBIBYTE, GIBIBYTE + 1, (1 << 32) - 1]);
+            let near = rng.pick_number(&[0, length + 1, length + PAGE, rest, rest + 1, rest.saturating_sub(1), rest.saturating_sub(PAGE)]);
+            let length = if rng.once_in(3) { far } else { near };
+            bytes[at..at + 4].copy_from_slice(&(length as u32).to_le_bytes());
+        }
+    }
+}
+
+/// Ends an image at a border of one of its records, or lengthens it.
+fn damage_size(rng: &mut Rng, bytes: &mut Vec<u8>) {
+    let at = match some_record(rng, bytes) {
+        None => return,
+        Some(at) => at,
+    };
+    let payload_end = at + 12 + length_at(bytes, at).min(1 << 20) as usize;
+    let size = match rng.below(8) {
+        0 => at,
+        1 => at + rng.range(1, 12) as usize,
+        2 => payload_end,
+        3 => payload_end - 1,
+        4 => payload_end + rng.below(PAGE) as usize,
+        5 => bytes.len() + rng.below(20) as usize,
+        6 => bytes.len() + PAGE as usize,
+        _ => rng.below(bytes.len() as u64 + 1) as usize,
+    };
+    bytes.resize(size.min(bytes.len() + PAGE as usize), 0);
+}
+
+/// Adds to every record id from one image on, so that the sequence breaks between two images.
+fn break_sequence(rng: &mut Rng, files: &mut [SegmentFile]) {
+    let from = some_file(rng, files);
+    let step = rng.pick_number(&[1, 5, u64::MAX, 1 << 32]);
+    for file in &mut files[from..] {
+        for at in record_places(&file.bytes) {
+            let id = id_at(&file.bytes, at).wrapping_add(step);
+            file.bytes[at + 4..at + 12].copy_from_slice(&id.to_le_bytes());
+        }
+    }
+}
+
+fn insert_empty(rng: &mut Rng, files: &mut Vec<SegmentFile>) {
+    let at = rng.below(files.len() as u64 + 1) as usize;
+    let id = files.get(at).map_or_else(|| files.last().map_or(1, |last| last.id.wrapping_add(1)), |next| next.id);
+    for file in &mut files[at..] {
+        file.id = file.id.wrapping_add(1);
+    }
+    files.insert(at, SegmentFile { id, bytes: Vec::new() });
+}
+
+/// One damage of any kind to a set of images.
+pub fn damage(rng: &mut Rng, files: &mut Vec<SegmentFile>) {
+    if files.is_empty() {
+        return;
+    }
+    let (one, other) = (some_file(rng, files), some_file(rng, files));
+    match rng.below(16) {
+        0..=3 => damage_header(rng, &mut files[one].bytes),
+        4..=6 => damage_size(rng, &mut files[one].bytes),
+        7 => drop(files.remove(one)),
+        8 => files[one].id = rng.pick_number(&[0, 1, files[other].id as u64, files[other].id as u64 + 1, u32::MAX as u64]) as u32,
+        9 => insert_empty(rng, files),
+        10 => files[one].bytes.clear(),
+        11 => break_sequence(rng, files),
+        12 => {
+            let bytes = std::mem::take(&mut files[one].bytes);
+            let bytes = std::mem::replace(&mut files[other].bytes, bytes);
+            files[one].bytes = bytes;
+        }
+        13 => {
+            let lowest = files.iter().map(|file| file.id).min().unwrap_or(0);
+            files.iter_mut().for_each(|file| file.id -= lowest);
+        }
+        _ => {
+            let bytes = &mut files[one].bytes;
+            if !bytes.is_empty() {
+                let at = rng.below(bytes.len() as u64) as usize;
+                bytes[at] ^= 1 << rng.below(8);
+            }
+        }
+    }
+}
+
+/// The record ids of an image, as far as its headers lead.
+pub fn ids_in(bytes: &[u8]) -> Vec<u64> {
+    record_places(bytes).into_iter().map(|at| id_at(bytes, at)).collect()
+}
+
+/// The lowest and the highest record id that the images show.
+pub fn ids_shown(files: &[SegmentFile]) -> (u64, u64) {
+    let ids: Vec<u64> = files.iter().flat_map(|file| ids_in(&file.bytes)).collect();
+    (ids.iter().copied().min().unwrap_or(1), ids.iter().copied().max().unwrap_or(1))
+}
+
+/// A range to recover: mostly inside what the images show, else at or beyond its ends, crossed, or with a zero.
+pub fn range(rng: &mut Rng, (lowest, highest): (u64, u64)) -> (u64, u64) {
+    let inside = |rng: &mut Rng| lowest + rng.below((highest - lowest).saturating_add(1).max(1));
+    let mut s = inside(rng);
+    let mut e = inside(rng);
+    if s > e && !rng.once_in(30) {
+        std::mem::swap(&mut s, &mut e);
+    }
+    match rng.below(24) {
+        0 => s = lowest.saturating_sub(1),
+        1 => e = highest.saturating_add(1),
+        2 => return (0, 0),
+        3 if rng.once_in(2) => s = 0,
+        3 => e = 0,
+        4 => e = u64::MAX,
+        5 => s = 1,
+        6 => s = rng.pick_number(&[s ^ 1 << 32, highest, highest.saturating_add(1)]),
+        7..=12 => return (lowest, highest),
+        13 => return (lowest.saturating_sub(2).max(1), lowest.saturating_sub(1).max(1)),
+        _ => (),
+    }
+    (s, e)
+}

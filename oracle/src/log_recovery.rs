@@ -1,0 +1,339 @@
+//! Recoveries in a history: from its own images, the other side's, damaged and made-up ones; and arguments that only ours is given.
+//! Compared: acceptance, number of the refusal, log, index rows, payloads delivered, and every lent byte and word.
+
+use crate::departures::*;
+use crate::ffi::{self, Image, Log, Shape};
+use crate::lent::Lent;
+use crate::log_cases::{damage, ids_shown, range, soft_size, synthetic, SegmentFile};
+use crate::log_model::{self as model, listed, Refusal};
+use crate::logs::{After, History, Step};
+use crate::original_log::{self, Opened};
+use crate::rng::Rng;
+
+/// The original is not run on images that may make it ask for more than this.
+const LARGEST_CLAIM: u64 = 1 << 20;
+
+/// Rows that stand for no folder of files: the original is not asked.
+const NO_FOLDER: &str = "no folder";
+
+/// What a recovery is given, and which folder the original opens.
+struct Given {
+    how: &'static str,
+    shape: Shape,
+    area: Vec<u8>,
+    images: Vec<Image>,
+    folder: usize,
+    /// The largest payload length that the headers in that folder claim.
+    largest_claim: u64,
+}
+
+fn largest_claim(files: &[SegmentFile]) -> u64 {
+    files.iter().map(|file| model::largest_claim(&file.bytes)).max().unwrap_or(0)
+}
+
+impl History<'_> {
+    /// Both sides recover from what they have.
+    pub fn recover_in_place(&mut self) -> After {
+        let mut images: Vec<Image> = listed(&self.log).iter().map(|segment| image(segment.id, segment.slot, segment.size)).collect();
+        shuffle(&mut self.rng, &mut images);
+        let (shape, area) = (model::shape_of(&self.log), self.area.content().to_vec());
+        let given = Given { how: "in place", shape, area, images, folder: 0, largest_claim: largest_claim(&self.our_files()) };
+        let (s, e) = range(&mut self.rng, (self.log.start_live, self.log.end_live));
+        self.recover(given, s, e)
+    }
+
+    /// Ours recovers from the original's files, the original from our images.
+    pub fn recover_crossed(&mut self) -> After {
+        let ours = self.our_files();
+        let read = |file: &SegmentFile| SegmentFile { id: file.id, bytes: self.folders[0].read(file.id).unwrap_or_default() };
+        let originals: Vec<SegmentFile> = ours.iter().map(read).collect();
+        let (s, e) = range(&mut self.rng, (self.log.start_live, self.log.end_live));
+        self.recover_files("crossed", &originals, &ours, s, e)
+    }
+
+    /// Both recover from the same damaged images: of this log, or made up.
+    pub fn recover_damaged(&mut self) -> After {
+        let shape = model::shape_of(&self.log);
+        let own = self.log.count > 0 && self.rng.once_in(2);
+        let mut files = if own { self.our_files() } else { synthetic(&mut self.rng, shape) };
+        for _ in 0..self.rng.pick_number(&[0, 1, 1, 1, 1, 2, 3]) {
+            damage(&mut self.rng, &mut files);
+        }
+        let shown = ids_shown(&files);
+        let (s, e) = range(&mut self.rng, shown);
+        self.recover_files("damaged", &files, &files, s, e)
+    }
+
+    /// Ours from one set of files laid into fresh slots, the original from the other in its second folder.
+    fn recover_files(&mut self, how: &'static str, ours: &[SegmentFile], originals: &[SegmentFile], s: u64, e: u64) -> After {
+        let mut shape = model::shape_of(&self.log);
+        if self.rng.once_in(4) {
+            shape.m = soft_size(&mut self.rng, shape.c);
+        }
+        let mut slots: Vec<u32> = (0..shape.k.max(ours.len() as u64) as u32).collect();
+        shuffle(&mut self.rng, &mut slots[..shape.k as usize]);
+        let mut area = vec![self.rng.next() as u8; (shape.k * shape.c) as usize];
+        let mut images = Vec::new();
+        for (file, slot) in ours.iter().zip(slots) {
+            let at = slot as usize * shape.c as usize;
+            let length = file.bytes.len().min(shape.c as usize);
+            if let Some(place) = area.get_mut(at..at + length) {
+                place.copy_from_slice(&file.bytes[..length]);
+            }
+            images.push(image(file.id, slot, file.bytes.len() as u64));
+        }
+        shuffle(&mut self.rng, &mut images);
+        let how = if self.folders[1].write_all(originals) { how } else { NO_FOLDER };
+        let mut given = Given { how, shape, area, images, folder: 1, largest_claim: largest_claim(originals) };
+        if self.rng.once_in(40) {
+            self.spoil_rows(&mut given);
+        }
+        self.recover(given, s, e)
+    }
+
+    /// Rows that break the rules of the lent memory: 1 or 13.
+    fn spoil_rows(&mut self, given: &mut Given) {
+        let rng = &mut self.rng;
+        given.how = NO_FOLDER;
+        match (rng.below(4), given.images.last_mut()) {
+            (0, Some(row)) => row.slot = rng.pick_number(&[given.shape.k, u32::MAX as u64, 0]) as u32,
+            (1, Some(row)) => row.size = rng.pick_number(&[given.shape.c + 1, u64::MAX, given.shape.c]),
+            (2, _) => given.images.resize(rng.range(64, 66) as usize, image(1, 0, 0)),
+            _ => given.shape = any_shape(rng, given.shape),
+        }
+    }
+
+    fn recover(&mut self, given: Given, s: u64, e: u64) -> After {
+        let live = e.saturating_sub(s).saturating_add(1).min(40);
+        let words = match self.rng.below(12) {
+            0 => self.rng.below(4 * live),
+            1 => 4 * live - 1,
+            _ => 4 * live + self.rng.below(9),
+        };
+        let mut model_index = vec![self.rng.next(); words as usize];
+        let mut index = Lent::new(&model_index, 0xA5A5_A5A5_A5A5_A5A5);
+        let (mut area, mut model_area) = (Lent::new(&given.area, 0xA5), given.area.clone());
+        let expected = model::recover(given.shape, &mut model_area, &given.images, s, e, &mut model_index);
+        let answer = ffi::recover(given.shape, area.content_mut(), &given.images, s, e, index.content_mut());
+        let images = given.images.clone();
+        self.steps.push(Step::Recover { how: given.how, s, e, images, index_words: words as usize });
+        let (refusal, log, rows) = match &expected {
+            Ok((log, rows)) => (0, *log, *rows),
+            Err(refusal) => (refusal.number, model::no_log(), 0),
+        };
+        if (answer.refusal, answer.reserved, answer.rows, answer.log) != (refusal, 0, rows, log) {
+            return self.differs(format!("recovery answers {}, document 01 {:?}", answer.refusal, expected.map(|(log, _)| log)));
+        }
+        let stays = area.content() == &model_area[..] && index.content() == &model_index[..];
+        if !stays || !area.guards_intact() || !index.guards_intact() {
+            return self.differs("area or index after recovery is not what document 01 has".to_string());
+        }
+        match expected {
+            Ok(_) => self.accepted(given, log, area, index.content(), (s, e)),
+            Err(refusal) => self.refused(given, refusal, (s, e)),
+        }
+    }
+
+    /// Ours accepts: so must the original, with the same log and the same payloads.
+    fn accepted(&mut self, given: Given, log: Log, area: Lent<u8>, index: &[u64], (s, e): (u64, u64)) -> After {
+        if given.how == NO_FOLDER {
+            return self.departs("recover: accepted, rows that no folder gives", Some(&MEMORY), After::Together);
+        }
+        let mut payloads = Vec::new();
+        for row in index.chunks_exact(4).take(if s == 0 { 0 } else { (e - s + 1) as usize }) {
+            let row = [row[0], row[1], row[2], row[3]];
+            let part = ffi::payload(&log, area.content(), row);
+            if ffi::row_question(&log, area.content(), row) != 0 || part.refusal != 0 {
+                return self.differs(format!("the row {:?} of a recovery is refused", row));
+            }
+            payloads.push((row[0], area.content()[part.at as usize..(part.at + part.length) as usize].to_vec()));
+        }
+        let opened = original_log::open(&self.folders[given.folder], given.shape.m, s, e);
+        let original = match opened.log {
+            Ok(log) => log,
+            Err(number) => return self.differs(format!("recovery: ours accepts, the original refuses with {}", number)),
+        };
+        if payloads != opened.delivered {
+            return self.differs("recovery: the original delivers other payloads".to_string());
+        }
+        self.folders.swap(0, given.folder);
+        self.model_area = area.content().to_vec();
+        self.area = area;
+        self.log = log;
+        self.original = original;
+        self.alike(&format!("recover: accepted, {}{}", given.how, if s == 0 { ", range (0, 0)" } else { "" }))
+    }
+
+    /// Ours refuses: the original refuses alike, or a departure explains what it does.
+    fn refused(&mut self, given: Given, refusal: Refusal, (s, e): (u64, u64)) -> After {
+        let Refusal { number, departure } = refusal;
+        if [1, 13, 23].contains(&number) {
+            return self.departs(&format!("recover: {}, ours alone", number), departure, After::Together);
+        }
+        if given.how == NO_FOLDER {
+            return self.departs(&format!("recover: {}, rows that no folder gives", number), Some(&MEMORY), After::Together);
+        }
+        let reads_images = ![11, 14, 15].contains(&number);
+        if reads_images && given.largest_claim > LARGEST_CLAIM {
+            let class = format!("recover: {}, rust not run: claims over 1 MiB", number);
+            return self.departs(&class, Some(&CLAIMED_LENGTH), After::Together);
+        }
+        let folder = &self.folders[given.folder];
+        let files_before = folder.file_count();
+        let Opened { log, delivered } = original_log::open(folder, given.shape.m, s, e);
+        let deleted = folder.file_count() < files_before;
+        let after = if given.folder == 0 { After::Apart } else { After::Together };
+        let originals = match log {
+            Ok(_) => return self.departs(&format!("recover: {}, the Rust accepts", number), departure, after),
+            Err(originals) => originals,
+        };
+        // A short header and a short payload have one text.
+        let same = number == originals || number == 20 && originals == 17;
+        if !same && deleted && departure.is_some() {
+            return self.departs(&format!("recover: {}, the Rust refuses after deleting", number), Some(&DELETES_FIRST), after);
+        }
+        if !same || deleted {
+            return self.departs(&format!("recover: {}, the Rust refuses with {}", number, originals), departure, after);
+        }
+        if !delivered.is_empty() {
+            return self.departs(&format!("recover: {}, the Rust delivers records first", number), Some(&DELIVERS_FIRST), after);
+        }
+        self.table.alike(&format!("recover: {}", number));
+        after
+    }
+
+    /// Any log value, over the same area: 2, or what document 01 has for it.
+    pub fn any_log_value(&mut self) -> After {
+        self.steps.push(Step::LogValue);
+        let mut log = self.log;
+        for _ in 0..self.rng.range(1, 2) {
+            spoil_log(&mut self.rng, &mut log);
+        }
+        let shorter = self.rng.once_in(8) as usize;
+        let mut model_area = self.model_area[shorter..].to_vec();
+        let mut area = Lent::new(&model_area, 0xA5);
+        let argument = self.rng.pick_number(&[0, log.start_live, log.end_live, 1]);
+        let (name, expected, (refusal, answer)) = match self.rng.below(3) {
+            0 => {
+                let answer = ffi::append(&log, area.content_mut(), b"abc");
+                ("append", model::append(&log, &mut model_area, b"abc"), (answer.refusal, answer.log))
+            }
+            1 => {
+                let answer = ffi::prune_oldest(&log, area.content_mut(), argument);
+                ("prune oldest", model::prune_oldest(&log, &model_area, argument), (answer.refusal, answer.log))
+            }
+            _ => {
+                let answer = ffi::prune_recent(&log, area.content_mut(), argument);
+                ("prune recent", model::prune_recent(&log, &mut model_area, argument), (answer.refusal, answer.log))
+            }
+        };
+        let (number, next) = expected.map_or_else(|refusal| (refusal.number, log), |next| (0, next));
+        if (refusal, answer) != (number, next) || area.content() != &model_area[..] || !area.guards_intact() {
+            return self.differs(format!("{} of the log value {:?}: {}, document 01 {}", name, log, refusal, number));
+        }
+        self.departs(&format!("any log value: {}, {}", name, number), Some(&LOG_VALUE), After::Together)
+    }
+
+    /// A new log of any shape: accepted, or 1.
+    pub fn any_shape(&mut self) -> After {
+        let shape = any_shape(&mut self.rng, model::shape_of(&self.log));
+        let expected = model::new(shape, self.area.content().len());
+        let answer = ffi::new(shape, self.area.content_mut());
+        let (number, log) = expected.map_or_else(|refusal| (refusal.number, model::no_log()), |log| (0, log));
+        if (answer.refusal, answer.log) != (number, log) || self.area.content() != &self.model_area[..] {
+            return self.differs(format!("a new log of {:?}: {}, document 01 {}", shape, answer.refusal, number));
+        }
+        self.departs(&format!("new log: {}", number), Some(&MEMORY), After::Together)
+    }
+
+    /// A row of any words: 2, 24 or good, and its place.
+    pub fn any_row(&mut self) -> After {
+        let (k, c) = (self.log.slots, self.log.capacity);
+        let rng = &mut self.rng;
+        let offset = rng.pick_number(&[0, 12, c - 1, c, c + 1, u64::MAX]);
+        let length = rng.pick_number(&[
+            0,
+            1,
+            c,
+            c.wrapping_sub(offset),
+            c.wrapping_sub(offset).wrapping_add(1),
+            u64::MAX,
+            1u64.wrapping_sub(offset),
+        ]);
+        let row = [rng.next(), rng.pick_number(&[0, k - 1, k, u64::MAX, 1 << 32]), offset, length];
+        let mut log = self.log;
+        if rng.once_in(8) {
+            spoil_log(rng, &mut log);
+        }
+        self.steps.push(Step::Row(row));
+        let number = model::row_question(&log, &self.model_area, row);
+        let expected = match number {
+            0 => ffi::Part { at: row[1] * c + offset, length, ..Default::default() },
+            number => ffi::Part { refusal: number, ..Default::default() },
+        };
+        let question = ffi::row_question(&log, self.area.content(), row);
+        let part = ffi::payload(&log, self.area.content(), row);
+        if question != number || part != expected {
+            return self.differs(format!("the row {:?}: {} {:?}, document 01 {:?}", row, question, part, expected));
+        }
+        self.departs(&format!("row: {}", number), Some(if number == 2 { &LOG_VALUE } else { &INDEX_ROWS }), After::Together)
+    }
+}
+
+fn image(id: u32, slot: u32, size: u64) -> Image {
+    Image { id, slot, size }
+}
+
+fn shuffle<T>(rng: &mut Rng, items: &mut [T]) {
+    for at in 1..items.len() {
+        items.swap(at, rng.below(at as u64 + 1) as usize);
+    }
+}
+
+/// K, C or M another number: beside its border, or far out.
+fn any_shape(rng: &mut Rng, mut shape: Shape) -> Shape {
+    match rng.below(3) {
+        0 => shape.k = rng.pick_number(&[0, 1, 64, 65, shape.k + 1, u64::MAX, 1 << 52]),
+        1 => shape.c = rng.pick_number(&[0, 1, 4095, 4096, shape.c + 1, shape.c + 4096, 1 << 31, (1 << 31) + 4096, u64::MAX, 1 << 63]),
+        _ => shape.m = rng.pick_number(&[0, shape.c, shape.c + 1, u64::MAX]),
+    }
+    shape
+}
+
+/// One field of a log value another number.
+fn spoil_log(rng: &mut Rng, log: &mut Log) {
+    let place = if rng.once_in(6) { rng.below(64) } else { rng.below(log.count.min(63) + 1) } as usize;
+    let near = |rng: &mut Rng, number: u64| {
+        let far = [0, 1, u64::MAX, number ^ 1 << 32, number ^ 1 << 31];
+        if rng.once_in(2) {
+            rng.pick_number(&far)
+        } else {
+            rng.pick_number(&[number.wrapping_add(1), number.wrapping_sub(1)])
+        }
+    };
+    let other = log.segments[rng.below(64) as usize % (log.count.clamp(1, 64) as usize)];
+    let segment = &mut log.segments[place];
+    match rng.below(11) {
+        0 => segment.id = near(rng, segment.id as u64) as u32,
+        1 => segment.slot = rng.pick_number(&[other.slot as u64, log.slots, segment.slot as u64 + 1, u32::MAX as u64]) as u32,
+        2 => {
+            segment.size = rng.pick_number(&[
+                0,
+                1,
+                segment.size + 1,
+                segment.size.wrapping_sub(1),
+                log.capacity,
+                log.capacity.wrapping_add(1),
+                u64::MAX,
+            ])
+        }
+        3 => segment.min = near(rng, segment.min),
+        4 => segment.max = near(rng, segment.max),
+        5 => log.start_live = near(rng, log.start_live),
+        6 => log.end_live = near(rng, log.end_live),
+        7 => log.count = near(rng, log.count),
+        8 => log.slots = near(rng, log.slots),
+        9 => log.capacity = rng.pick_number(&[0, log.capacity.wrapping_add(1), log.capacity.wrapping_mul(2), log.capacity / 2, u64::MAX]),
+        _ => log.soft_size = rng.pick_number(&[0, log.capacity, log.capacity.wrapping_add(1), u64::MAX]),
+    }
+}

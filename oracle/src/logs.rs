@@ -1,0 +1,330 @@
+//! Logs: whole histories of appends, prunes and recoveries, the original on a folder of files, ours on an area in memory.
+//! Compared after each call: answers, live range, segments, sizes, every byte of each segment, and what must not have changed.
+
+use crate::departures::*;
+use crate::ffi::{self, Log, Segment};
+use crate::lent::Lent;
+use crate::log_cases::{damage_header, ids_in, payload_length, record_id, shape, SegmentFile};
+use crate::log_model::{self as model, listed, Refusal};
+use crate::original_log::{self, Folder, OriginalLog, FILE_MISSING, NO_SEGMENT_NAME, PREFIX};
+use crate::rng::Rng;
+use crate::table::Table;
+
+pub fn run(size: u64, seed: u64) -> Table {
+    let mut table = Table::new(String::new());
+    let mut folders = [Folder::new("a"), Folder::new("b")];
+    let mut histories = 0;
+    while table.cases < size {
+        histories += 1;
+        History::play(&mut table, &mut folders, (seed, histories));
+    }
+    table.title = format!("logs, seed {}, {} histories", seed, histories);
+    table
+}
+
+/// What was done, printed where a history differs.
+#[allow(dead_code)]
+#[derive(Debug)]
+pub enum Step {
+    Append { length: usize },
+    PruneOldest(u64),
+    PruneRecent(u64),
+    Altered { segment: u32 },
+    Recover { how: &'static str, s: u64, e: u64, images: Vec<ffi::Image>, index_words: usize },
+    Reopen,
+    LogValue,
+    Row([u64; 4]),
+    Names,
+}
+
+/// Where a step leaves the two sides.
+pub enum After {
+    Together,
+    /// The original went where ours refuses to go: it is opened again from our images.
+    Apart,
+    Over,
+}
+
+pub struct History<'a> {
+    pub table: &'a mut Table,
+    /// The original's folder, and a second one to try recoveries in.
+    pub folders: &'a mut [Folder; 2],
+    pub rng: Rng,
+    seed: (u64, u64),
+    pub steps: Vec<Step>,
+    pub log: Log,
+    pub area: Lent<u8>,
+    /// The area as document 01 has it.
+    pub model_area: Vec<u8>,
+    pub original: OriginalLog,
+}
+
+impl<'a> History<'a> {
+    fn play(table: &'a mut Table, folders: &'a mut [Folder; 2], seed: (u64, u64)) {
+        let mut rng = Rng::new(seed.0.wrapping_mul(0xD1B5_4A32_D192_ED03) ^ seed.1);
+        let shape = shape(&mut rng);
+        let model_area = vec![rng.next() as u8; (shape.k * shape.c) as usize];
+        let mut area = Lent::new(&model_area, 0xA5);
+        let log = ffi::new(shape, area.content_mut()).log;
+        folders[0].clear();
+        let opened = original_log::open(&folders[0], shape.m, 0, 0);
+        let original = opened.log.unwrap_or_else(|number| panic!("the original does not open an empty folder: {}", number));
+        let mut history = History { table, folders, rng, seed, steps: Vec::new(), log, area, model_area, original };
+        if log != model::empty_log(shape) {
+            history.differs("a new log is not the empty one".to_string());
+            return;
+        }
+        for _ in 0..history.rng.range(3, 20) {
+            history.table.cases += 1;
+            let after = match history.step() {
+                After::Apart => history.reopen(),
+                after => after,
+            };
+            if let After::Over = after {
+                return;
+            }
+        }
+    }
+
+    fn step(&mut self) -> After {
+        match self.rng.below(100) {
+            0..=49 => self.append(),
+            50..=57 => self.prune_oldest(),
+            58..=67 => self.prune_recent(),
+            68..=70 => self.prune_recent_over_altered_bytes(),
+            71..=76 => self.recover_in_place(),
+            77..=80 => self.recover_crossed(),
+            81..=93 => self.recover_damaged(),
+            94 => self.any_log_value(),
+            95 => self.any_shape(),
+            96..=98 => self.any_row(),
+            _ => self.odd_names(),
+        }
+    }
+
+    pub fn differs(&mut self, what: String) -> After {
+        let (seed, steps, log) = (self.seed, &self.steps, &self.log);
+        self.table.differs(steps.len(), || {
+            let shape = model::shape_of(log);
+            format!("  history {} of seed {}, {:?}: {:?}\n  log {:?}\n  {}", seed.1, seed.0, shape, steps, listed(log), what)
+        });
+        After::Over
+    }
+
+    pub fn alike(&mut self, class: &str) -> After {
+        match self.state_differs() {
+            Some(what) => self.differs(what),
+            None => {
+                self.table.alike(class);
+                After::Together
+            }
+        }
+    }
+
+    pub fn departs(&mut self, class: &str, departure: Option<&'static Departure>, after: After) -> After {
+        match departure {
+            Some(departure) => self.table.departs(class, departure),
+            None => return self.differs(format!("no departure explains: {}", class)),
+        }
+        after
+    }
+
+    /// What differs between the original's log with its files and our log with its slots.
+    fn state_differs(&self) -> Option<String> {
+        let ours: Vec<_> = listed(&self.log).iter().map(|segment| (segment.id, segment.min, segment.max)).collect();
+        let originals = self.original.segments();
+        if ours != originals {
+            return Some(format!("the original's segments (id, min, max) are {:?}", originals));
+        }
+        let range = (self.log.start_live, self.log.end_live);
+        if range != self.original.live_range() {
+            return Some(format!("live {:?}, the original {:?}", range, self.original.live_range()));
+        }
+        if self.original.head_size() != listed(&self.log).last().map(|head| head.size) {
+            return Some(format!("the original's head has size {:?}", self.original.head_size()));
+        }
+        if self.folders[0].file_count() != ours.len() {
+            return Some("the original's folder holds other files too".to_string());
+        }
+        let same_bytes = |segment: &&Segment| self.folders[0].read(segment.id).as_deref() == Some(self.our_bytes(segment));
+        let other = listed(&self.log).iter().find(|segment| !same_bytes(segment));
+        other.map(|segment| format!("the original's segment {} has other bytes", segment.id))
+    }
+
+    fn our_bytes(&self, segment: &Segment) -> &[u8] {
+        let at = segment.slot as usize * self.log.capacity as usize;
+        &self.area.content()[at..at + segment.size as usize]
+    }
+
+    /// Our segments as files.
+    pub fn our_files(&self) -> Vec<SegmentFile> {
+        let file = |segment: &Segment| SegmentFile { id: segment.id, bytes: self.our_bytes(segment).to_vec() };
+        listed(&self.log).iter().map(file).collect()
+    }
+
+    /// Takes our answer where it is document 01's, with every lent byte; gives back what differs else.
+    fn take(&mut self, refusal: u32, log: Log, expected: &Result<Log, Refusal>) -> Option<String> {
+        let expected = match expected {
+            Ok(next) => (0, *next),
+            Err(refusal) => (refusal.number, self.log),
+        };
+        if (refusal, log) != expected {
+            return Some(format!("ours {} {:?}, document 01 {} {:?}", refusal, listed(&log), expected.0, listed(&expected.1)));
+        }
+        if self.area.content() != &self.model_area[..] || !self.area.guards_intact() {
+            return Some("our area is not what document 01 has".to_string());
+        }
+        self.log = log;
+        None
+    }
+
+    fn append(&mut self) -> After {
+        let huge = self.rng.once_in(400);
+        let length = if huge { (1 << 30) + self.rng.below(2) } else { payload_length(&mut self.rng, self.log.capacity) } as usize;
+        // A huge payload is not touched by either side: these zeros are never mapped.
+        let payload = if huge { vec![0; length] } else { self.rng.bytes(length) };
+        self.steps.push(Step::Append { length });
+        let before = self.log;
+        let expected = model::append(&self.log, &mut self.model_area, &payload);
+        let answer = ffi::append(&self.log, self.area.content_mut(), &payload);
+        if let Some(what) = self.take(answer.refusal, answer.log, &expected) {
+            return self.differs(what);
+        }
+        if (answer.id, answer.reserved) != (expected.map_or(0, |next| next.end_live), 0) {
+            return self.differs(format!("append answers id {}", answer.id));
+        }
+        if length == 1 << 30 {
+            return self.departs(&format!("append: {}, rust not run: a record of 1 GiB", answer.refusal), Some(&MEMORY), After::Together);
+        }
+        let would_be = before.end_live.wrapping_add(1);
+        match (expected, self.original.append(&payload)) {
+            (Ok(_), Ok(id)) if id == answer.id && self.log.count > before.count => self.alike("append: accepted, a new segment"),
+            (Ok(_), Ok(id)) if id == answer.id => self.alike("append: accepted, to the head"),
+            (Err(Refusal { number, departure: None }), Err(originals)) if number == originals => self.alike(&format!("append: {}", number)),
+            (Err(Refusal { number, departure }), Ok(id)) if id == would_be => {
+                self.departs(&format!("append: {}, the Rust accepts", number), departure, After::Apart)
+            }
+            (_, originals) => self.differs(format!("append: ours {}, the original {:?}", answer.refusal, originals)),
+        }
+    }
+
+    fn some_id(&mut self) -> u64 {
+        let borders: Vec<u64> = listed(&self.log).iter().flat_map(|segment| [segment.min, segment.max]).collect();
+        record_id(&mut self.rng, self.log.start_live, self.log.end_live, &borders)
+    }
+
+    fn prune_oldest(&mut self) -> After {
+        let new_start = self.some_id();
+        self.steps.push(Step::PruneOldest(new_start));
+        let expected = model::prune_oldest(&self.log, &self.model_area, new_start);
+        let answer = ffi::prune_oldest(&self.log, self.area.content_mut(), new_start);
+        if let Some(what) = self.take(answer.refusal | answer.reserved, answer.log, &expected) {
+            return self.differs(what);
+        }
+        match (expected, self.original.prune_oldest(new_start)) {
+            (Ok(_), Ok(())) => self.alike("prune oldest: accepted"),
+            (Err(Refusal { number, departure }), Err(originals)) if number == originals => match self.state_differs() {
+                Some(what) => self.differs(what),
+                None => self.departs(&format!("prune oldest: {}, the Rust panics", number), departure, After::Together),
+            },
+            (_, originals) => self.differs(format!("prune oldest: ours {}, the original {:?}", answer.refusal, originals)),
+        }
+    }
+
+    fn prune_recent(&mut self) -> After {
+        let new_end = self.some_id();
+        self.steps.push(Step::PruneRecent(new_end));
+        let reaching = listed(&self.log).iter().filter(|segment| segment.min <= new_end).last();
+        let head = reaching.or_else(|| listed(&self.log).first()).copied();
+        let names_it = head.map_or(false, |head| ids_in(self.our_bytes(&head)).contains(&new_end));
+        let expected = model::prune_recent(&self.log, &mut self.model_area, new_end);
+        let answer = ffi::prune_recent(&self.log, self.area.content_mut(), new_end);
+        if let Some(what) = self.take(answer.refusal | answer.reserved, answer.log, &expected) {
+            return self.differs(what);
+        }
+        let originals = self.original.prune_recent(new_end);
+        let (number, departure) = match (expected, originals) {
+            (Ok(_), Ok(())) => return self.alike("prune recent: accepted"),
+            (Ok(_), Err(number)) => return self.differs(format!("prune recent: the original refuses with {}", number)),
+            (Err(Refusal { number, departure }), _) => (number, departure),
+        };
+        if originals.is_err() {
+            let class = format!("prune recent: {}, the Rust fails with {}, its writer dropped", number, originals.unwrap_err());
+            return if self.original.head_size().is_none() {
+                self.departs(&class, departure, After::Apart)
+            } else {
+                self.differs("the original fails and keeps its writer".to_string())
+            };
+        }
+        let longer = head.map_or(false, |head| self.original.head_size() > Some(head.size));
+        match number {
+            8 | 9 if names_it => self.departs(&format!("prune recent: {}, the Rust accepts", number), departure, After::Apart),
+            10 if longer => self.departs("prune recent: 10, the Rust lengthens the file", departure, After::Apart),
+            _ => self.differs(format!("prune recent: ours {}, the original accepts", number)),
+        }
+    }
+
+    /// Damages a header in the area and in the original's file alike, and prunes.
+    fn prune_recent_over_altered_bytes(&mut self) -> After {
+        let files = self.our_files();
+        if files.is_empty() {
+            return self.prune_recent();
+        }
+        let place = self.rng.below(files.len() as u64) as usize;
+        let (id, mut bytes) = (files[place].id, files[place].bytes.clone());
+        damage_header(&mut self.rng, &mut bytes);
+        let at = self.log.segments[place].slot as usize * self.log.capacity as usize;
+        self.area.content_mut()[at..at + bytes.len()].copy_from_slice(&bytes);
+        self.model_area[at..at + bytes.len()].copy_from_slice(&bytes);
+        self.folders[0].write(id, &bytes);
+        self.steps.push(Step::Altered { segment: id });
+        self.prune_recent();
+        After::Over
+    }
+
+    /// The original opens our images.
+    fn reopen(&mut self) -> After {
+        self.table.cases += 1;
+        self.steps.push(Step::Reopen);
+        let (s, e) = (self.log.start_live, self.log.end_live);
+        self.folders[0].write_all(&self.our_files());
+        match original_log::open(&self.folders[0], self.log.soft_size, s, e).log {
+            Ok(log) => {
+                self.original = log;
+                self.alike("reopen: our images, opened by the Rust")
+            }
+            Err(number) => self.differs(format!("the original does not open our images: {}", number)),
+        }
+    }
+
+    /// File names that the original stumbles over; ours is given rows and sees no name.
+    fn odd_names(&mut self) -> After {
+        self.steps.push(Step::Names);
+        let files = self.our_files();
+        let (s, e) = (self.log.start_live, self.log.end_live);
+        self.folders[1].clear();
+        files.iter().skip(1).for_each(|file| self.folders[1].write(file.id, &file.bytes));
+        match files.first() {
+            Some(first) if files.len() > 1 && first.id < 1_000_000_000 && self.rng.once_in(2) => {
+                self.folders[1].write_named(&format!("{}.+{:09}.log", PREFIX, first.id), &first.bytes);
+                let log = original_log::open(&self.folders[1], self.log.soft_size, s, e).log;
+                let pruned = log.map(|mut log| (log.prune_oldest(e), log.live_range()));
+                match pruned {
+                    Ok((Err(FILE_MISSING), range)) if range == (e, e) => {
+                        self.departs("a plus sign in a name: the Rust opens it and cannot prune it", Some(&PLUS_NAME), After::Together)
+                    }
+                    pruned => self.differs(format!("a plus sign in a name: the original {:?}", pruned)),
+                }
+            }
+            _ => {
+                self.folders[1].write_named(&format!("{}.notes", PREFIX), b"");
+                match original_log::open(&self.folders[1], self.log.soft_size, s, e).log {
+                    Err(NO_SEGMENT_NAME) => {
+                        self.departs("a name that begins with the prefix: the Rust stops", Some(&STRAY_NAME), After::Together)
+                    }
+                    opened => self.differs(format!("a name that begins with the prefix: the original {:?}", opened.err())),
+                }
+            }
+        }
+    }
+}
