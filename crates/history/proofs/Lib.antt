@@ -26,3 +26,4 @@ pub mod Refused
 pub mod Whole
 pub mod Unchanged
 pub mod Twice
+pub mod EitherOrder

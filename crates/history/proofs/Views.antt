@@ -71,7 +71,8 @@ pub record Brings (a : View) (area : List ℕ) (z : View) (area′ : List ℕ) (
   pub log-holds : Holds log area f
   -- the images of the log that comes back give the same words, over the earlier area
   pub kept : rowsAll area (a .c) s e (rowsFor (a .segs)) penOf ≡ rowsAll area (log .c) s e (rowsFor (log .segs)) penOf
-  -- the live range
+  -- the live range, and the live end between the two prunes
+  pub older-end : older .end ≡ a .end
   pub start-is : log .start ≡ s
   pub end-is : log .end ≡ e
 
@@ -347,6 +348,7 @@ module _ (a : View) (area : List ℕ) (z : View) (area′ : List ℕ) (f f′ : 
           older-holds = old-holds;
           log-holds = log-holds;
           kept = rows-kept;
+          older-end = refl;
           start-is = refl;
           end-is = refl;
         }

@@ -1,7 +1,8 @@
 -- What follows from demand 3 and from the invariant, said on its own: the later data changes nothing; recovering the whole live range
--- gives back the log; a refused call does not matter; recovering twice gives the same. Assumes nothing.
+-- gives back the log; a refused call does not matter; recovering twice gives the same; the two prunes of demand 3 may be made in either
+-- order. Assumes nothing.
 use mathlib.Core.Path.{_≡_}
-use mathlib.Core.List.{List, _∷_, _++_}
+use mathlib.Core.List.{List, [], _∷_, _++_}
 use Prim.Native.Nat.{ℕ, _*_, _≤_, _<_}
 use lib.ListN.{length}
 use lib.Dec.{eqb}
@@ -10,8 +11,8 @@ use Rattle.seglog.specs.declared.Log.{Log}
 use Rattle.seglog.specs.New.{newOf}
 use Rattle.recovery_walk.specs.declared.ImageRow.{ImageRow}
 use Rattle.recovery.specs.Recovery.{Recovery, recoveryOf, recoveryAnswer, recoveryArea, recoveryIndex}
-use Rattle.history.specs.History.{Call, Held, refusalOf, run, told}
-use Rattle.history.specs.Demand.{AnyOrder, rowsFor, listed, recovering, idsIn, questionAt, payloadAt, earlier, later, Asked}
+use Rattle.history.specs.History.{Call, oldest, recent, Held, refusalOf, run, told}
+use Rattle.history.specs.Demand.{AnyOrder, rowsFor, listed, recovering, idsIn, prunesTo, questionAt, payloadAt, earlier, later, Asked}
 
 -- ---- the later data changes nothing
 
@@ -92,3 +93,11 @@ RecoveringTheRecovered =
     → (r : Recovery) → r ≡ recovering u rows s e index
     → (rows′ : List ImageRow) → AnyOrder rows′ (rowsFor (listed (afterRecovery u r .log)))
     → SameTwice u index r (recovering (afterRecovery u r) rows′ s e (recoveryIndex index r))
+
+-- ---- the order of the two prunes
+
+-- inside the live range, prune recent to e and then oldest to s leave what prune oldest to s and then recent to e leave
+abbrev pub PrunesInEitherOrder : Type 0
+PrunesInEitherOrder =
+    (k c m : ℕ) (area : List ℕ) (calls : List Call) → newOf k c m (length area) .refusal ≡ 0 → (t : Held) → t ≡ earlier k c m area calls
+    → (s e : ℕ) → 0 < s → s ≤ e → t .log .start ≤ s → e ≤ t .log .end → run t (recent e ∷ oldest s ∷ []) ≡ run t (prunesTo s e)
