@@ -70,5 +70,10 @@ pub fn delta_decode(input: &[u8]) -> Result<(Priors, u64), u32> {
 }
 
 pub fn delta_encode(priors: Priors) -> Vec<u8> {
-    Delta { priors }.encode()
+    encoded(&Delta { priors })
+}
+
+/// The bytes of a delta, which the original's own callers alone may ask for.
+pub fn encoded(delta: &Delta) -> Vec<u8> {
+    delta.encode()
 }

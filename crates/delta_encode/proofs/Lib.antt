@@ -5,3 +5,4 @@ pub mod Parse
 pub mod RoundTrip
 pub mod Orders
 pub mod Unique
+pub mod Specimens

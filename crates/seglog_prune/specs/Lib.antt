@@ -1,1 +1,2 @@
 pub mod Prune
+pub mod Steps

@@ -15,8 +15,6 @@ use Rattle.delta_encode.proofs.Any.{any-yes, any-no, any-end, outside-y
 use borrow.Author.Needs.{needs}
 use Rattle.delta_encode.proofs.any_outside.Statement.{statement}
 use Rattle.delta_encode.proofs.any_outside.Tie as tie
-use Rattle.delta_encode.proofs.any_outside.Reads as reads
-use Rattle.delta_encode.proofs.any_outside.Lts as lts
 
 abbrev Inv-loop : tie.InvT-loop
 Inv-loop n t count limit i₀ i = (i ≤ count) × (length (t .rows) ≡ 256) × (any (outside n) (take count (t .rows)) ≡ any (outside n) (drop i (take count (t .rows))))
@@ -64,9 +62,11 @@ loop-again c =
     ⊎-elim
     (λ w. outside-within (a .n) (rowAt (a .t1) (b .loop .i)) (w .0 .taken) (omega (arith, w .2 .left, w .5 .left)))
     (λ w. outside-absent (a .n) (rowAt (a .t1) (b .loop .i)) (w .left))
-    (c .if1 .came) in
-    (omega arith, b .loop .inv .1,
-    b .loop .inv .2 ∙ any-no (outside (a .n)) (a .t1 .rows) (a .t1 .count) (b .loop .i) (omega arith) (erased []) (omega arith) y)
+    (c .if1 .came) in (
+      omega arith,
+      b .loop .inv .1,
+      b .loop .inv .2 ∙ any-no (outside (a .n)) (a .t1 .rows) (a .t1 .count) (b .loop .i) (omega arith) (erased []) (omega arith) y,
+    )
 
 returns-3 : tie.Need-returns-3 Inv-loop μ-loop
 returns-3 c =

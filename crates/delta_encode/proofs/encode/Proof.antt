@@ -12,14 +12,6 @@ use Rattle.delta_encode.proofs.Whole.{Known, known, arranged-few, arran
 use borrow.Author.Needs.{needs}
 use Rattle.delta_encode.proofs.encode.Statement.{statement}
 use Rattle.delta_encode.proofs.encode.Tie as tie
-use Rattle.delta_encode.proofs.encode.Reads as reads
-use Rattle.delta_encode.proofs.encode.Lts as lts
-use Rattle.delta.proofs.arrange.Reads as arrange-reads
-use Rattle.delta_encode.proofs.any_outside.Reads as any-outside-reads
-use Rattle.delta_encode.proofs.measure.Reads as measure-reads
-use Rattle.delta_encode.proofs.put_erases.Reads as put-erases-reads
-use Rattle.delta_encode.proofs.put_reinstates.Reads as put-reinstates-reads
-use Rattle.little_endian.proofs.write_u32.Reads as write-u32-reads
 
 -- what holds once the rows are measured
 at-measure : (c : tie.After-measure)

@@ -12,9 +12,6 @@ use Rattle.delta_encode.proofs.Writes.{sum-end, sum-before, keyed-end, 
 use borrow.Author.Needs.{needs}
 use Rattle.delta_encode.proofs.measure.Statement.{statement}
 use Rattle.delta_encode.proofs.measure.Tie as tie
-use Rattle.delta_encode.proofs.measure.Reads as reads
-use Rattle.delta_encode.proofs.measure.Lts as lts
-use Rattle.delta_encode.proofs.key_size.Reads as key-size-reads
 
 abbrev Inv-loop : tie.InvT-loop
 Inv-loop t e₀ k₀ size₀ i₀ e k size i =
@@ -29,10 +26,16 @@ loop-holds : tie.Need-loop-holds Inv-loop μ-loop
 loop-holds c =
     let a = c .args .t1 in
     let l : length (a .rows) ≡ 256 = search (needs, unmapped) in
-    let m = a .count in
-    (omega arith, l, omega arith, omega arith, sym (sum-end (a .rows) m m (omega arith) erases (omega arith)),
-    sym (sum-end (a .rows) m m (omega arith) reinstates (omega arith)), omega (arith, sum-end (a .rows) m m (omega arith) sizeOf (omega arith)),
-    keyed-end (a .rows) m m (omega arith) (omega arith))
+    let m = a .count in (
+      omega arith,
+      l,
+      omega arith,
+      omega arith,
+      sym (sum-end (a .rows) m m (omega arith) erases (omega arith)),
+      sym (sum-end (a .rows) m m (omega arith) reinstates (omega arith)),
+      omega (arith, sum-end (a .rows) m m (omega arith) sizeOf (omega arith)),
+      keyed-end (a .rows) m m (omega arith) (omega arith),
+    )
 
 sub-i : tie.Need-sub-i Inv-loop μ-loop
 sub-i c = search needs
@@ -76,9 +79,16 @@ loop-again c =
     let e2 : sizeOf row ≡ 36 + row .length = rw y in
     let f0 = sum-before (a .rows) (a .count) (b .loop .i) (omega arith) (omega arith) (omega arith) (erased []) erases in
     let f1 = sum-before (a .rows) (a .count) (b .loop .i) (omega arith) (omega arith) (omega arith) (erased []) reinstates in
-    let f2 = sum-before (a .rows) (a .count) (b .loop .i) (omega arith) (omega arith) (omega arith) (erased []) sizeOf in
-    (omega arith, b .loop .inv .1, omega arith, omega arith, omega arith, omega arith, omega arith,
-    keyed-before (a .rows) (a .count) (b .loop .i) (omega arith) (omega arith) (omega arith) (erased []) h (b .loop .inv .7))
+    let f2 = sum-before (a .rows) (a .count) (b .loop .i) (omega arith) (omega arith) (omega arith) (erased []) sizeOf in (
+      omega arith,
+      b .loop .inv .1,
+      omega arith,
+      omega arith,
+      omega arith,
+      omega arith,
+      omega arith,
+      keyed-before (a .rows) (a .count) (b .loop .i) (omega arith) (omega arith) (omega arith) (erased []) h (b .loop .inv .7),
+    )
 
 add-erases : tie.Need-add-erases Inv-loop μ-loop
 add-erases c = search needs
@@ -98,9 +108,16 @@ loop-again-2 c =
     let e2 : sizeOf row ≡ 32 = rw y in
     let f0 = sum-before (a .rows) (a .count) (b .loop .i) (omega arith) (omega arith) (omega arith) (erased []) erases in
     let f1 = sum-before (a .rows) (a .count) (b .loop .i) (omega arith) (omega arith) (omega arith) (erased []) reinstates in
-    let f2 = sum-before (a .rows) (a .count) (b .loop .i) (omega arith) (omega arith) (omega arith) (erased []) sizeOf in
-    (omega arith, b .loop .inv .1, omega arith, omega arith, omega arith, omega arith, omega arith,
-    keyed-before (a .rows) (a .count) (b .loop .i) (omega arith) (omega arith) (omega arith) (erased []) h (b .loop .inv .7))
+    let f2 = sum-before (a .rows) (a .count) (b .loop .i) (omega arith) (omega arith) (omega arith) (erased []) sizeOf in (
+      omega arith,
+      b .loop .inv .1,
+      omega arith,
+      omega arith,
+      omega arith,
+      omega arith,
+      omega arith,
+      keyed-before (a .rows) (a .count) (b .loop .i) (omega arith) (omega arith) (omega arith) (erased []) h (b .loop .inv .7),
+    )
 
 returns : tie.Need-returns Inv-loop μ-loop
 returns c =

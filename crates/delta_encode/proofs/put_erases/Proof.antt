@@ -12,10 +12,6 @@ use Rattle.delta_encode.proofs.Writes.{Writing, writing-start, writing-
 use borrow.Author.Needs.{needs}
 use Rattle.delta_encode.proofs.put_erases.Statement.{statement}
 use Rattle.delta_encode.proofs.put_erases.Tie as tie
-use Rattle.delta_encode.proofs.put_erases.Reads as reads
-use Rattle.delta_encode.proofs.put_erases.Lts as lts
-use Rattle.delta_encode.proofs.key_size.Reads as key-size-reads
-use Rattle.lists.proofs.copy_into.Reads as copy-into-reads
 
 abbrev Inv-loop : tie.InvT-loop
 Inv-loop out₀ at t count p₀ i₀ out p i =
@@ -43,10 +39,12 @@ loop-less c = search needs
 loop-again : tie.Need-loop-again Inv-loop μ-loop
 loop-again c =
     let b = c .before .before .before in
-    let a = b .before .before .args in
-    (omega arith, b .loop .inv .1,
-    subst (λ r. Writing (a .out .now) (a .at) (concat eraseBytes (rowsOf (a .t1))) (b .loop .out) (b .loop .p) r)
-    (erase-present (a .t1 .rows) (a .t1 .count) (b .loop .i) (omega arith) (erased []) (omega arith) (c .if1 .taken)) (b .loop .inv .2))
+    let a = b .before .before .args in (
+      omega arith,
+      b .loop .inv .1,
+      subst (λ r. Writing (a .out .now) (a .at) (concat eraseBytes (rowsOf (a .t1))) (b .loop .out) (b .loop .p) r)
+          (erase-present (a .t1 .rows) (a .t1 .count) (b .loop .i) (omega arith) (erased []) (omega arith) (c .if1 .taken)) (b .loop .inv .2),
+    )
 
 key-size-requires : tie.Need-key-size-requires Inv-loop μ-loop
 key-size-requires c κs = search needs
@@ -83,11 +81,14 @@ loop-again-2 c =
     let b = n .before .before .before .before .before in
     let a = b .before .before .args in
     let h : length (rowAt (a .t1) (b .loop .i) .key) ≡ 32 = n .key-size .ensures .1 in
-    let k : n .key-size .result ≡ 32 = n .key-size .ensures .0 in
-    (omega arith, b .loop .inv .1, writing-step (a .out .now) (a .at) (concat eraseBytes (rowsOf (a .t1))) (b .loop .out) (b .loop .p) (concat eraseBytes (drop (b .loop .i) (rowsOf (a .t1)))) (b .loop .inv .2)
-    (rowAt (a .t1) (b .loop .i) .key) (concat eraseBytes (drop (b .loop .i + 1) (rowsOf (a .t1)))) (o .copy-into .last .0) (b .loop .p + n .key-size .result)
-    (erase-absent (a .t1 .rows) (a .t1 .count) (b .loop .i) (omega arith) (erased []) (omega arith) (n .before .before .if1 .left))
-    (o .copy-into .ensures) (omega arith))
+    let k : n .key-size .result ≡ 32 = n .key-size .ensures .0 in (
+      omega arith,
+      b .loop .inv .1,
+      writing-step (a .out .now) (a .at) (concat eraseBytes (rowsOf (a .t1))) (b .loop .out) (b .loop .p) (concat eraseBytes (drop (b .loop .i) (rowsOf (a .t1)))) (b .loop .inv .2)
+          (rowAt (a .t1) (b .loop .i) .key) (concat eraseBytes (drop (b .loop .i + 1) (rowsOf (a .t1)))) (o .copy-into .last .0) (b .loop .p + n .key-size .result)
+          (erase-absent (a .t1 .rows) (a .t1 .count) (b .loop .i) (omega arith) (erased []) (omega arith) (n .before .before .if1 .left))
+          (o .copy-into .ensures) (omega arith),
+    )
 
 same-length : tie.Need-same-length Inv-loop μ-loop
 same-length c = c .before .loop .inv .2 .long

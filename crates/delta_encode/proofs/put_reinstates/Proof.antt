@@ -15,10 +15,6 @@ use Rattle.delta_encode.proofs.Writes.{Writing, writing-start, writing-
 use borrow.Author.Needs.{needs}
 use Rattle.delta_encode.proofs.put_reinstates.Statement.{statement}
 use Rattle.delta_encode.proofs.put_reinstates.Tie as tie
-use Rattle.delta_encode.proofs.put_reinstates.Reads as reads
-use Rattle.delta_encode.proofs.put_reinstates.Lts as lts
-use Rattle.delta_encode.proofs.key_size.Reads as key-size-reads
-use Rattle.delta_encode.proofs.put_row.Reads as put-row-reads
 
 abbrev Inv-loop : tie.InvT-loop
 Inv-loop values out₀ at t count p₀ i₀ out p i =
@@ -69,11 +65,15 @@ loop-again c =
     let y = n .before .before .if1 .taken in
     let s = inside (a .t1 .rows) (a .t1 .count) (b .loop .i) (omega arith) (erased []) (omega arith) (a .values .now) (b .loop .inv .2) in
     let k = present-length (a .values .now) row (n .key-size .ensures .1) (s .1 y) in
-    let q : w .put-row .result ≡ b .loop .p + (36 + row .length) = w .put-row .ensures .0 in
-    (omega arith, b .loop .inv .1, s .0, writing-step (a .out .now) (a .at) (concat (reinstateBytes (a .values .now)) (rowsOf (a .t1))) (b .loop .out) (b .loop .p) (concat (reinstateBytes (a .values .now)) (drop (b .loop .i) (rowsOf (a .t1)))) (b .loop .inv .3)
-    (row .key ++ (leBytes 4 (row .length) ++ valueOf (a .values .now) row)) (concat (reinstateBytes (a .values .now)) (drop (b .loop .i + 1) (rowsOf (a .t1)))) (w .put-row .last .0) (w .put-row .result)
-    (reinstate-present (a .t1 .rows) (a .t1 .count) (b .loop .i) (omega arith) (erased []) (omega arith) (a .values .now) y)
-    (w .put-row .ensures .1) (omega arith))
+    let q : w .put-row .result ≡ b .loop .p + (36 + row .length) = w .put-row .ensures .0 in (
+      omega arith,
+      b .loop .inv .1,
+      s .0,
+      writing-step (a .out .now) (a .at) (concat (reinstateBytes (a .values .now)) (rowsOf (a .t1))) (b .loop .out) (b .loop .p) (concat (reinstateBytes (a .values .now)) (drop (b .loop .i) (rowsOf (a .t1)))) (b .loop .inv .3)
+          (row .key ++ (leBytes 4 (row .length) ++ valueOf (a .values .now) row)) (concat (reinstateBytes (a .values .now)) (drop (b .loop .i + 1) (rowsOf (a .t1)))) (w .put-row .last .0) (w .put-row .result)
+          (reinstate-present (a .t1 .rows) (a .t1 .count) (b .loop .i) (omega arith) (erased []) (omega arith) (a .values .now) y)
+          (w .put-row .ensures .1) (omega arith),
+    )
 
 add-i-2 : tie.Need-add-i-2 Inv-loop μ-loop
 add-i-2 c = search needs
@@ -85,10 +85,13 @@ loop-again-2 : tie.Need-loop-again-2 Inv-loop μ-loop
 loop-again-2 c =
     let b = c .before .before .before in
     let a = b .before .before .before .args in
-    let s = inside (a .t1 .rows) (a .t1 .count) (b .loop .i) (omega arith) (erased []) (omega arith) (a .values .now) (b .loop .inv .2) in
-    (omega arith, b .loop .inv .1, s .0,
-    subst (λ r. Writing (a .out .now) (a .at) (concat (reinstateBytes (a .values .now)) (rowsOf (a .t1))) (b .loop .out) (b .loop .p) r)
-    (reinstate-absent (a .t1 .rows) (a .t1 .count) (b .loop .i) (omega arith) (erased []) (omega arith) (a .values .now) (c .if1 .left)) (b .loop .inv .3))
+    let s = inside (a .t1 .rows) (a .t1 .count) (b .loop .i) (omega arith) (erased []) (omega arith) (a .values .now) (b .loop .inv .2) in (
+      omega arith,
+      b .loop .inv .1,
+      s .0,
+      subst (λ r. Writing (a .out .now) (a .at) (concat (reinstateBytes (a .values .now)) (rowsOf (a .t1))) (b .loop .out) (b .loop .p) r)
+          (reinstate-absent (a .t1 .rows) (a .t1 .count) (b .loop .i) (omega arith) (erased []) (omega arith) (a .values .now) (c .if1 .left)) (b .loop .inv .3),
+    )
 
 same-length : tie.Need-same-length Inv-loop μ-loop
 same-length c = c .before .loop .inv .3 .long

@@ -11,10 +11,6 @@ use Rattle.delta_encode.proofs.Writes.{splice-three}
 use borrow.Author.Needs.{needs}
 use Rattle.delta_encode.proofs.put_row.Statement.{statement}
 use Rattle.delta_encode.proofs.put_row.Tie as tie
-use Rattle.delta_encode.proofs.put_row.Reads as reads
-use Rattle.delta_encode.proofs.put_row.Lts as lts
-use Rattle.lists.proofs.copy_into.Reads as copy-into-reads
-use Rattle.little_endian.proofs.write_u32.Reads as write-u32-reads
 
 -- a key has 32 bytes, by its type
 key-long : (c : tie.Start) → length (c .args .t3) ≡ 32
@@ -65,11 +61,13 @@ returns c =
     let number = value .before .before .before .before .before in
     let front = number .before .before .before .before in
     let a = front .before .before .before .before .before .args in
-    let same : a .from + a .size - a .from ≡ a .size = omega arith in
-    (omega arith, splice-three (a .out .now) (a .at) (a .t3) (leBytes 4 (a .size)) (part (a .from) (a .size) (a .values .now))
-    (front .copy-into .last .0) (number .write-u32 .last .0) (value .copy-into2 .last .0) (key-long (front .before .before .before .before .before)) (le-bytes-length 4 (a .size))
-    (front .copy-into .ensures) (number .write-u32 .ensures) (value .copy-into2 .ensures ∙
-    ap (λ (n : ℕ). splice (a .at + 36) (part (a .from) n (a .values .now)) (number .write-u32 .last .0)) same))
+    let same : a .from + a .size - a .from ≡ a .size = omega arith in (
+      omega arith,
+      splice-three (a .out .now) (a .at) (a .t3) (leBytes 4 (a .size)) (part (a .from) (a .size) (a .values .now))
+          (front .copy-into .last .0) (number .write-u32 .last .0) (value .copy-into2 .last .0) (key-long (front .before .before .before .before .before)) (le-bytes-length 4 (a .size))
+          (front .copy-into .ensures) (number .write-u32 .ensures) (value .copy-into2 .ensures ∙
+          ap (λ (n : ℕ). splice (a .at + 36) (part (a .from) n (a .values .now)) (number .write-u32 .last .0)) same),
+    )
 
 pub put-row-spec : {M : Type 1} → statement M
 put-row-spec =

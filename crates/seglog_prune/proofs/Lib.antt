@@ -1,0 +1,3 @@
+pub mod Drops
+pub mod Cut
+pub mod Ways

@@ -1,0 +1,54 @@
+-- `seglog_prune::prune_oldest` meets its contract: the shared tests decide, or the leading segments go.
+-- Assumes nothing.
+use mathlib.Core.Path.{_≡_, sym, ap, _∙_}
+use lib.ListN.{length}
+use Rattle.seglog.specs.New.{accepted}
+use Rattle.seglog.proofs.View.{unmapped}
+use Rattle.seglog_prune.specs.declared.Early.the-variants.{Onward}
+use Rattle.seglog_prune.specs.Prune.{pruneAnswer, pruneArea}
+use Rattle.seglog_prune.specs.Steps.{earlyOf}
+use Rattle.seglog_prune.proofs.Ways.{inner, fits-plain, oldest-settled, oldest-onward}
+use borrow.Author.Needs.{needs}
+use Rattle.seglog_prune.proofs.prune_oldest.Statement.{statement}
+use Rattle.seglog_prune.proofs.prune_oldest.Tie as tie
+
+-- none of the shared tests decides
+onward-here : (c : tie.After-enum-told) → let a = c .before .before .before .before .args in
+    Onward ≡ earlyOf (a .log) (length (a .area .now)) (a .new-start-live)
+onward-here c = sym (c .enum-told .given .1) ∙ c .before .before .decide-early .ensures
+
+long-of : (s : tie.Start) → length (s .args .log .segs) ≡ 64
+long-of s = search (needs, unmapped)
+
+decide-early-requires : tie.Need-decide-early-requires
+decide-early-requires c κs = search needs
+
+enum-told : tie.Need-enum-told
+enum-told c = search needs
+
+settled-requires : tie.Need-settled-requires
+settled-requires c κs = search needs
+
+returns : tie.Need-returns
+returns c =
+    let early = c .before .before in
+    let s = early .before .before in
+    let both = oldest-settled (s .args .log) (s .args .area .now) (s .args .new-start-live) (long-of s) _ (early .decide-early .ensures) (c .before .match .keys2) in
+    (c .settled .ensures ∙ both .0, both .1)
+
+started-requires : tie.Need-started-requires
+started-requires c κs =
+    let a = c .before .before .before .before .args in
+    fits-plain (a .log) (length (a .area .now)) (inner _ _ _ (onward-here c) .fits)
+
+returns-2 : tie.Need-returns-2
+returns-2 c =
+    let s = c .before .before .before .before .before in
+    let a = s .args in
+    let is = oldest-onward (a .log) (a .area .now) (a .new-start-live) (long-of s) (onward-here (c .before)) in
+    (ap accepted (c .started .ensures) ∙ ap (pruneAnswer (a .log)) (sym is), ap (pruneArea (a .area .now)) (sym is))
+
+pub prune-oldest-spec : {M : Type 1} → statement M
+prune-oldest-spec =
+    tie.close
+    (tie.spec decide-early-requires enum-told settled-requires returns started-requires returns-2)

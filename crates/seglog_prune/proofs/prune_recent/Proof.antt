@@ -1,0 +1,248 @@
+-- `seglog_prune::prune_recent` meets its contract: the shared tests decide, or the cut is looked for in the last segment that stays.
+-- Assumes nothing.
+use mathlib.Core.Path.{_≡_, sym, ap, _∙_}
+use mathlib.Core.List.{List}
+use Prim.Native.Nat.{ℕ, _+_, _-_, _*_, _≤_, _<_}
+use native.Mathlib.Omega.{arith}
+use lib.ListN.{length, getD, take, drop, replicate, length-take, length-drop}
+use Rattle.lists.specs.Splice.{splice}
+use Rattle.seglog.specs.declared.Log.{Log}
+use Rattle.seglog.specs.declared.Segment.{Segment}
+use Rattle.seglog.specs.Log.{noSegment}
+use Rattle.seglog.specs.Shape.{SizesObey}
+use Rattle.seglog.specs.New.{accepted, refusedLog}
+use Rattle.seglog.proofs.View.{unmapped}
+use Rattle.seglog.proofs.Fit.{SegmentGood}
+use Rattle.seglog_prune.specs.declared.Early.the-variants.{Onward}
+use Rattle.seglog_prune.specs.Prune.{cutAt, findCut, imageIn, pruneAnswer, pruneArea}
+use Rattle.seglog_prune.specs.Steps.{earlyOf, cutOf}
+use Rattle.seglog_prune.proofs.Cut.{cut-within}
+use Rattle.seglog_prune.proofs.Ways.{
+  inner,
+  plain-few,
+  fits-plain,
+  recent-settled,
+  Staying,
+  few-entries,
+  fitting,
+  left-some,
+  head-good,
+  head-inside,
+  area-small,
+  recent-lost,
+  recent-answer,
+  recent-area,
+}
+use borrow.Author.Needs.{needs}
+use Rattle.seglog_prune.proofs.prune_recent.Statement.{statement}
+use Rattle.seglog_prune.proofs.prune_recent.Tie as tie
+
+-- the places of the code
+abbrev start-of : tie.After-remaining → tie.Start
+start-of c = c .before .before .before .before .before .before
+
+abbrev log-of : tie.After-remaining → Log
+log-of c = start-of c .args .log
+
+abbrev area-of : tie.After-remaining → List ℕ
+area-of c = start-of c .args .area .now
+
+abbrev end-of : tie.After-remaining → ℕ
+end-of c = start-of c .args .new-end-live
+
+abbrev left-of : tie.After-remaining → ℕ
+left-of c = c .remaining .result
+
+abbrev head-of : tie.After-remaining → Segment
+head-of c = getD (log-of c .segs) (left-of c - 1) noSegment
+
+abbrev left-at : tie.After-find-cut → tie.After-remaining
+left-at c = c .before .before .before .before .before .before
+
+-- what is known there
+long-of : (s : tie.Start) → length (s .args .log .segs) ≡ 64
+long-of s = search (needs, unmapped)
+
+onward-here : (c : tie.After-enum-told) → let a = c .before .before .before .before .args in
+    Onward ≡ earlyOf (a .log) (length (a .area .now)) (a .new-end-live)
+onward-here c = sym (c .enum-told .given .1) ∙ c .before .before .decide-early .ensures
+
+staying-of : (c : tie.After-remaining) → Staying (log-of c) (area-of c) (end-of c) (left-of c)
+staying-of c =
+    record {
+      long = long-of (start-of c);
+      onward = onward-here (c .before .before);
+      few = c .remaining .ensures .0;
+      kept = c .remaining .ensures .1;
+    }
+
+module _ (c : tie.After-remaining) where
+  few : left-of c ≤ 64
+  few = omega (arith, c .remaining .ensures .0, few-entries _ _ _ _ (staying-of c))
+
+  some : 0 < left-of c
+  some = left-some _ _ _ _ (staying-of c)
+
+  good : SegmentGood (log-of c .k) (log-of c .c) (head-of c)
+  good = head-good _ _ _ _ (staying-of c)
+
+  inside : head-of c .slot * log-of c .c + log-of c .c ≤ length (area-of c)
+  inside = head-inside _ _ _ _ (staying-of c)
+
+  small : length (area-of c) ≤ 137438953472
+  small = area-small _ _ _ _ (staying-of c)
+
+  pages : SizesObey (log-of c .k) (log-of c .c) (log-of c .m)
+  pages = fitting _ _ _ _ (staying-of c) .sizes
+
+  -- the part that is lent is the segment's image
+  image-is : take (head-of c .slot * log-of c .c + head-of c .size - head-of c .slot * log-of c .c) (drop (head-of c .slot * log-of c .c) (area-of c))
+      ≡ imageIn (area-of c) (log-of c .c) (head-of c)
+  image-is = ap (λ (k : ℕ). take k (drop (head-of c .slot * log-of c .c) (area-of c))) (front (head-of c .slot * log-of c .c) (head-of c .size))
+    where
+      front : (a b : ℕ) → a + b - a ≡ b
+      front a b = omega arith
+
+  image-small : length (imageIn (area-of c) (log-of c .c) (head-of c)) ≤ log-of c .c
+  image-small = omega (arith, length-take (head-of c .size) (drop (head-of c .slot * log-of c .c) (area-of c)), good .size)
+
+-- what the search answers is what is found in the image
+found : (c : tie.After-find-cut) → let r = left-at c in
+    cutOf (c .find-cut .result) ≡ findCut (imageIn (area-of r) (log-of r .c) (head-of r)) (end-of r) 0
+found c = let r = left-at c in c .find-cut .ensures ∙ ap (λ (img : List ℕ). findCut img (end-of r) 0) (image-is r)
+
+-- the cut that was found
+cut-of : (c : tie.After-known-told) → let r = left-at (c .before .before .before) in
+    findCut (imageIn (area-of r) (log-of r .c) (head-of r)) (end-of r) 0 ≡ cutAt (c .before .end .given .0 .0)
+cut-of c = sym (found (c .before .before .before)) ∙ ap cutOf (c .before .end .given .1)
+
+cut-small : (c : tie.After-known-told) → c .before .end .given .0 .0 ≤ log-of (left-at (c .before .before .before)) .c
+cut-small c =
+    let r = left-at (c .before .before .before) in
+    cut-within _ _ _ _ (cut-of c) (image-small r) (pages r .whole-pages)
+
+decide-early-requires : tie.Need-decide-early-requires
+decide-early-requires c κs = search needs
+
+enum-told : tie.Need-enum-told
+enum-told c = search needs
+
+settled-requires : tie.Need-settled-requires
+settled-requires c κs = search needs
+
+returns : tie.Need-returns
+returns c =
+    let early = c .before .before in
+    let s = early .before .before in
+    let both = recent-settled (s .args .log) (s .args .area .now) (s .args .new-end-live) (long-of s) _ (early .decide-early .ensures) (c .before .match .keys2) in
+    (c .settled .ensures ∙ both .0, both .1)
+
+remaining-requires : tie.Need-remaining-requires
+remaining-requires c κs =
+    let a = c .before .before .before .before .before .args in
+    plain-few (a .log) (fits-plain (a .log) (length (a .area .now)) (inner _ _ _ (onward-here (c .before)) .fits))
+
+sub-head : tie.Need-sub-head
+sub-head c = some c
+
+mul-head : tie.Need-mul-head
+mul-head c = record { fits = omega (arith, few c) }
+
+array-copy-out-head : tie.Need-array-copy-out-head
+array-copy-out-head c = omega (arith, few c, some c)
+
+cast-from : tie.Need-cast-from
+cast-from c = search needs
+
+mul-from : tie.Need-mul-from
+mul-from c = let r = c .before .before .before in record { fits = omega (arith, inside r, small r) }
+
+add-to : tie.Need-add-to
+add-to c = let r = c .before .before .before in record { fits = omega (arith, inside r, small r, good r .size) }
+
+sub-find-cut : tie.Need-sub-find-cut
+sub-find-cut c = search needs
+
+part-find-cut-start : tie.Need-part-find-cut-start
+part-find-cut-start c = search needs
+
+part-find-cut-end : tie.Need-part-find-cut-end
+part-find-cut-end c = let r = c .before .before .before .before in omega (arith, inside r, good r .size)
+
+find-cut-requires : tie.Need-find-cut-requires
+find-cut-requires c κs =
+    let r = c .before .before .before .before .before in
+    omega (arith, ap length (image-is r), image-small r, pages r .at-most)
+
+enum-known-end : tie.Need-enum-known-end
+enum-known-end c = search needs
+
+enum-told-2 : tie.Need-enum-told-2
+enum-told-2 c = search needs
+
+same-length : tie.Need-same-length
+same-length c = search needs
+
+returns-2 : tie.Need-returns-2
+returns-2 c =
+    let cut = c .before .before in
+    let r = left-at cut in
+    let is = recent-lost (log-of r) (area-of r) (end-of r) (left-of r) (staying-of r) (sym (found cut) ∙ ap cutOf (c .enum-told2 .given .1)) in
+    (ap (pruneAnswer (log-of r)) (sym is), ap (pruneArea (area-of r)) (sym is))
+
+add-zero-fill : tie.Need-add-zero-fill
+add-zero-fill c =
+    let r = left-at (c .before .before .before .before) in
+    record { fits = omega (arith, inside r, small r, cut-small (c .before)) }
+
+zero-fill-requires : tie.Need-zero-fill-requires
+zero-fill-requires c κs = search needs
+
+ended-requires : tie.Need-ended-requires
+ended-requires c κs =
+    let r = left-at (c .before .before .before .before .before .before .before) in
+    (some r, few r)
+
+same-length-2 : tie.Need-same-length-2
+same-length-2 c = search needs
+
+returns-3 : tie.Need-returns-3
+returns-3 c =
+    let told = c .before .before .before .before .before in
+    let r = left-at (told .before .before .before) in
+    let x = told .before .end .given .0 .0 in
+    let zeros : head-of r .slot * log-of r .c + x - (head-of r .slot * log-of r .c + head-of r .size) ≡ x - head-of r .size = omega arith in (
+      ap accepted (c .ended .ensures) ∙ recent-answer (log-of r) (area-of r) (end-of r) (left-of r) (staying-of r) x (cut-of told),
+      c .before .before .before .zero-fill .ensures
+          ∙ ap (λ (k : ℕ). splice (head-of r .slot * log-of r .c + head-of r .size) (replicate k 0) (area-of r)) zeros
+          ∙ recent-area (log-of r) (area-of r) (end-of r) (left-of r) (staying-of r) x (cut-of told),
+    )
+
+pub prune-recent-spec : {M : Type 1} → statement M
+prune-recent-spec =
+    tie.close
+    (tie.spec
+    decide-early-requires
+    enum-told
+    settled-requires
+    returns
+    remaining-requires
+    sub-head
+    mul-head
+    array-copy-out-head
+    cast-from
+    mul-from
+    add-to
+    sub-find-cut
+    part-find-cut-start
+    part-find-cut-end
+    find-cut-requires
+    enum-known-end
+    enum-told-2
+    same-length
+    returns-2
+    add-zero-fill
+    zero-fill-requires
+    ended-requires
+    same-length-2
+    returns-3)
