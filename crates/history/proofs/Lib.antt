@@ -1,5 +1,4 @@
 pub mod Records
-pub mod CutLaws
 pub mod Over
 pub mod Chain
 pub mod Slots
