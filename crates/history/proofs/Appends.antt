@@ -3,7 +3,7 @@
 use mathlib.Core.Bool.{not, true, false, Bool, _&&_}
 use mathlib.Core.List.{List, _++_, _∷_, []}
 use mathlib.Core.Path.{ap, _≡_, sym, _∙_, refl, subst}
-use Prim.Native.Nat.{ℕ, _≤_, min, _+_, _-_, suc, _<_, _^_, _%_, zero, _*_}
+use Prim.Native.Nat.{ℕ, _≤_, min, _+_, _-_, suc, _<_, _^_, _%_, _*_}
 use native.Mathlib.Omega.{arith}
 use lib.Dec.{eqb, leb, ltb}
 use lib.ListN.{length}
@@ -18,23 +18,8 @@ use Rattle.seglog.proofs.Slots.{snoc-apart, apart-snoc}
 use Rattle.seglog.proofs.View.{ends-with}
 use Rattle.seglog.specs.Log.{View, freshIn, apartOf, headOf, frontOf, fitsOf}
 use Rattle.seglog.specs.declared.Segment.{Segment}
-use Rattle.seglog_append.specs.Append.{
-  Appending,
-  refused,
-  appended,
-  startAfter,
-  grownOf,
-  nextId,
-  freeFrom,
-  opensOf,
-  lowestFree,
-  freshOf,
-  beforeOf,
-  targetOf,
-  withRecord,
-  recordInto,
-  appendOf,
-}
+use Rattle.seglog_append.proofs.Free.{free-most, free-good}
+use Rattle.seglog_append.specs.Append.{Appending, refused, appended, startAfter, grownOf, nextId, opensOf, lowestFree, freshOf, beforeOf, targetOf, withRecord, recordInto, appendOf}
 use Rattle.history.specs.History.{noted}
 use Rattle.history.specs.Recorded.{recordsFrom}
 use Rattle.history.proofs.Chain.{Chain, chain-ends, chain-join, chain-keep}
@@ -82,19 +67,6 @@ unfolding nextId
 next-small gs =
     pick-either (λ (x : ℕ). x < 2 ^ 32) (eqb (length gs) 0) 1 ((headOf gs .id + 1) % 2 ^ 32) (λ q. omega arith) (λ q. omega arith)
 
--- a slot that is found is free
-free-good : (gs : List Segment) (n i : ℕ) → (freeFrom n i gs ≡ i + n → ⊥)
-    → (freshIn (freeFrom n i gs) gs ≡ true) × (freeFrom n i gs < i + n)
-unfolding freeFrom
-free-good gs zero i full = absurd (full (omega arith))
-free-good gs (suc n) i full = go (freshIn i gs) refl full (free-good gs n (suc i))
-  where
-    go : (b : Bool) → freshIn i gs ≡ b → (pick b i (freeFrom n (suc i) gs) ≡ i + suc n → ⊥)
-        → ((freeFrom n (suc i) gs ≡ suc i + n → ⊥) → (freshIn (freeFrom n (suc i) gs) gs ≡ true) × (freeFrom n (suc i) gs < suc i + n))
-        → (freshIn (pick b i (freeFrom n (suc i) gs)) gs ≡ true) × (pick b i (freeFrom n (suc i) gs) < i + suc n)
-    go true e full ih = (e, omega arith)
-    go false e full ih = let t = ih (λ q. full (omega (arith, q))) in (t .0, omega (arith, t .1))
-
 -- where no segment is opened there is one
 pub opens-some : (a : View) → opensOf a ≡ false → 0 < length (a .segs)
 unfolding opensOf
@@ -131,13 +103,13 @@ module _ (a : View) (area : List ℕ) (f : ℕ → List ℕ) (h : Holds a area f
   unfolding recordsFrom
   to-new some free =
       let is = next-is P (a .segs) (h .i) (h .b) (a .start) (a .end) (h .j) (a .end + 1) (λ g y. y .id) (h .chain) (h .live) some in
-      let spot = free-good (a .segs) (a .k) 0 (λ q. free (omega (arith, q))) in
+      let below : lowestFree a < a .k = omega (arith, free-most (a .segs) (a .k) 0) in
       let none : a .end + 1 - (a .end + 1) ≡ 0 = omega arith in
       record {
         chain = subst (λ (y : ℕ). Chain P (h .i) (h .b) (a .segs) y (a .end + 1)) (sym is) (h .chain);
         under = omega arith;
         upto = record {
-          slot = omega (arith, spot .1);
+          slot = below;
           room = omega arith;
           id = next-small (a .segs);
           top = h .top;
@@ -145,7 +117,7 @@ module _ (a : View) (area : List ℕ) (f : ℕ → List ℕ) (h : Holds a area f
           long = rw none refl;
           image = rw none refl;
         };
-        fresh = spot .0;
+        fresh = free-good (a .segs) (a .k) 0 (omega arith);
         apart = h .apart;
         live = λ n. live-new (a .segs) (freshOf a) (a .start) (a .end) (h .j) (nextId (a .segs) + 1) n refl (h .live);
       }

@@ -62,11 +62,9 @@ chain-keep {P} slot (g ∷ gs) i a j b t n h =
         id = l .id;
         min = l .min;
         order = l .order;
-        good = t g (u .here)
-            (omega (arith, chain-le P gs (i + 1) (g .max + 1) j b (h .1))) (l .good);
+        good = t g (u .here) (omega (arith, chain-le P gs (i + 1) (g .max + 1) j b (h .1))) (l .good);
       },
-      chain-keep slot gs (i + 1) (g .max + 1) j b t (u .rest)
-          (h .1),
+      chain-keep slot gs (i + 1) (g .max + 1) j b t (u .rest) (h .1),
     )
 
 -- a chain of segments of which Q follows from P
@@ -79,8 +77,7 @@ chain-map {P} (g ∷ gs) i a j b t h =
         id = l .id;
         min = l .min;
         order = l .order;
-        good = t g (omega (arith, chain-le P gs (i + 1) (g .max + 1) j b (h .1)))
-            (l .good);
+        good = t g (omega (arith, chain-le P gs (i + 1) (g .max + 1) j b (h .1))) (l .good);
       },
       chain-map gs (i + 1) (g .max + 1) j b t (h .1),
     )

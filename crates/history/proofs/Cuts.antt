@@ -1,21 +1,21 @@
 -- The cut that prune recent looks for, in an image that is records one behind the other: it is found, where its record ends.
 -- Assumes nothing.
-use mathlib.Core.Bool.{true, false, Bool}
+use mathlib.Core.Bool.{Bool, true, false}
 use mathlib.Core.List.{List, _++_, append-nil, append-assoc}
 use mathlib.Core.Path.{_≡_, refl, ap, _∙_, sym}
 use Prim.Native.Nat.{_-_, ℕ, _%_, _≤_, _<_, _+_, zero, suc}
 use native.Mathlib.Omega.{arith}
-use lib.Dec.{eqb, ltb}
+use lib.Dec.{eqb}
 use lib.ListN.{length, length-append}
-use borrow.Author.Tests.{lt-ltb, le-ltb, eqb-true, eqb-false}
+use borrow.Author.Tests.{eqb-true, eqb-false}
 use Rattle.page.proofs.Page.{whole, multiple-add}
 use Rattle.page.specs.Page.{paddedEnd}
 use Rattle.record.proofs.Record.{record-length, room-ge, header, record-header, room-pages}
 use Rattle.record.specs.Record.{recordBytes, recordRoom, headerAt}
 use Rattle.record.specs.declared.HeaderAnswer.the-variants.{Header}
+use Rattle.seglog_prune.proofs.Cut.{cut-here, cut-on}
 use Rattle.seglog_prune.specs.Prune.{findCut, cutAt}
 use Rattle.history.specs.Recorded.{recordsFrom}
-use Rattle.history.proofs.CutLaws.{cut-here, cut-on}
 use Rattle.history.proofs.Over.{Plain}
 use Rattle.history.proofs.Records.{next-place}
 
@@ -37,15 +37,15 @@ cut-records f n (suc m) pre a at is whole plain low high =
         ∙ ap (λ (k : ℕ). length pre + k) (length-append (recordBytes a (f a)) (recordsFrom f (suc a) m)
         ∙ ap (λ (k : ℕ). k + length (recordsFrom f (suc a) m)) (record-length a (f a)))
 
-    inside : ltb at (length img) ≡ true
-    inside = lt-ltb at (length img) (omega (arith, long, room-ge (length (f a))))
+    inside : at < length img
+    inside = omega (arith, long, room-ge (length (f a)))
 
     read : headerAt img at ≡ Header (header (length (f a)) a)
     read =
         record-header a (f a) pre (recordsFrom f (suc a) m) at is (plain .small a (omega arith) (omega arith)) (omega (arith, plain .ids))
 
-    room : ltb (length img) (at + 12 + length (f a)) ≡ false
-    room = le-ltb (length img) (at + 12 + length (f a)) (omega (arith, long, room-ge (length (f a))))
+    room : at + 12 + length (f a) ≤ length img
+    room = omega (arith, long, room-ge (length (f a)))
 
     next : paddedEnd 4096 (at + 12 + length (f a)) ≡ length pre + recordRoom (length (f a))
     next = rw is (next-place (length pre) (length (f a)) whole)
@@ -65,7 +65,7 @@ cut-records f n (suc m) pre a at is whole plain low high =
         let size : length pre + length (recordsFrom f a (n + 1 - a)) ≡ length pre + recordRoom (length (f a)) =
         ap (λ (k : ℕ). length pre + length (recordsFrom f a k)) one
         ∙ ap (λ (k : ℕ). length pre + k) (ap length (append-nil (recordBytes a (f a))) ∙ record-length a (f a)) in
-        cut-here img n at (length (f a)) a inside read room e ∙ ap cutAt (next ∙ sym size)
+        cut-here img n at inside (header (length (f a)) a) read room same ∙ ap cutAt (next ∙ sym size)
     go false e ih =
         let other : suc a ≤ n = omega (arith, eqb-false a n e) in
         let one : n + 1 - a ≡ suc (n + 1 - suc a) = omega arith in
@@ -74,7 +74,7 @@ cut-records f n (suc m) pre a at is whole plain low high =
         ap (λ (k : ℕ). length pre + length (recordsFrom f a k)) one
         ∙ ap (λ (k : ℕ). length pre + k) (length-append (recordBytes a (f a)) (recordsFrom f (suc a) (n + 1 - suc a)))
         ∙ omega (arith, pre-long, record-length a (f a)) in
-        cut-on img n at (length (f a)) a inside read room e
+        cut-on img n at inside (header (length (f a)) a) read room (eqb-false a n e)
         ∙ ap (λ (l : List ℕ). findCut l n (paddedEnd 4096 (at + 12 + length (f a))))
         (sym (append-assoc pre (recordBytes a (f a)) (recordsFrom f (suc a) m)))
         ∙ ih (next ∙ sym pre-long) (rw pre-long (multiple-add 4096 (length pre) (recordRoom (length (f a))) whole

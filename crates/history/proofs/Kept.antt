@@ -160,8 +160,7 @@ module _ (P Q : Segment → Type 0) (s e : ℕ) where
             hs = v .hs;
             g = v .g;
             y = v .y;
-            new = simp q
-                (v .new);
+            new = simp q (v .new);
             kept = v .kept;
             more = v .more;
             low = v .low;

@@ -10,8 +10,11 @@ use lib.ListN.{length, length-append}
 use borrow.Author.Tests.{ne-eqb, eq-eqb, le-ltb, lt-ltb}
 use Rattle.lists.specs.Choice.{pick}
 use Rattle.page.proofs.Page.{multiple-add}
-use Rattle.record.proofs.Record.{record-length, room-ge, record-header, room-pages}
-use Rattle.record.specs.Record.{maxPayload, recordRoom, recordBytes}
+use Rattle.record.proofs.Record.{record-length, room-ge, record-header, header, room-pages}
+use Rattle.record.specs.Record.{maxPayload, recordRoom, recordBytes, headerAt}
+use Rattle.recovery_walk.proofs.RecordCases.{records-end, records-next}
+use Rattle.recovery_walk.proofs.RowWords.{rows-end, rows-next}
+use Rattle.recovery_walk.proofs.StepCases.{step-next}
 use Rattle.recovery_walk.specs.Images.{records}
 use Rattle.recovery_walk.specs.Rows.{Pen, rowOf, rowsIn, movedOf}
 use Rattle.recovery_walk.specs.Step.{advancedOf, followsOf, cutOf, liveOf, moreOf, recordStep}
@@ -19,7 +22,6 @@ use Rattle.recovery_walk.specs.declared.Scan.{Scan}
 use Rattle.recovery_walk.specs.declared.Step.the-variants.{Next}
 use Rattle.history.specs.Recorded.{recordsFrom}
 use Rattle.history.proofs.Records.{next-place}
-use Rattle.history.proofs.WalkLaws.{step-next, records-end, records-next, rows-end, rows-next}
 
 -- the state after n records from the id a on
 unfoldable pub over : (ℕ → List ℕ) → (s e : ℕ) → Scan → ℕ → ℕ → Scan
@@ -71,10 +73,11 @@ module _ (f : ℕ → List ℕ) (s e : ℕ) where
     goes-on : followsOf (c .last) a ≡ true → recordStep img s e c ≡ Next (on c a)
     unfolding recordsFrom
     goes-on g =
-        step-next img s e c (length (f a)) a
-        (record-header a (f a) pre (recordsFrom f (suc a) n) (c .pos) at (plain .small a (omega arith) (omega arith))
-        (omega (arith, plain .ids)))
-        g (not-cut (length img) (c .pos) s e (length (f a)) a (omega (arith, long, room-ge (length (f a)))))
+        let read =
+        record-header a (f a) pre (recordsFrom f (suc a) n) (c .pos) at (plain .small a (omega arith) (omega arith))
+        (omega (arith, plain .ids)) in
+        sym (step-next img s e c (headerAt img (c .pos)) refl (header (length (f a)) a) read g
+        (not-cut (length img) (c .pos) s e (length (f a)) a (omega (arith, long, room-ge (length (f a))))))
 
     regrouped : img ≡ (pre ++ recordBytes a (f a)) ++ recordsFrom f (suc a) n
     unfolding recordsFrom

@@ -12,6 +12,7 @@ use Rattle.lists.specs.Choice.{pick}
 use Rattle.record.specs.Record.{recordRoom}
 use Rattle.seglog.specs.declared.Segment.{Segment}
 use Rattle.seglog_prune.specs.Prune.{dropOld}
+use Rattle.recovery_walk.proofs.RowWords.{row-dead}
 use Rattle.recovery_walk.specs.Rows.{rowOf}
 use Rattle.recovery_walk.specs.Step.{liveOf}
 use Rattle.history.proofs.Chain.{Chain, chain-le}
@@ -19,7 +20,6 @@ use Rattle.history.proofs.Deliver.{live-over, live-under}
 use Rattle.history.proofs.Later.{Grows}
 use Rattle.history.proofs.Over.{rowsOver}
 use Rattle.history.proofs.Scans.{rowsChain}
-use Rattle.history.proofs.WalkLaws.{row-dead}
 
 module _ (s e : ℕ) where
   rows-none : (f : ℕ → List ℕ) (slot n pos a : ℕ) → e < a → rowsOver f s e slot pos a n ≡ []

@@ -34,8 +34,7 @@ module _ (area : List ℕ) (f : ℕ → List ℕ) (k c : ℕ) where
         arith,
         p .long,
         ap (λ (n : ℕ). length (recordsFrom f (g .min) n)) one,
-        length-append (recordBytes (g .min) (f (g .min)))
-            (recordsFrom f (suc (g .min)) (g .max - g .min)),
+        length-append (recordBytes (g .min) (f (g .min))) (recordsFrom f (suc (g .min)) (g .max - g .min)),
         record-length (g .min) (f (g .min)),
         room-ge (length (f (g .min))),
       )

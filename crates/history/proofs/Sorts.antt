@@ -118,8 +118,7 @@ apart-parts (z ∷ xs) x ys h =
     let u = apart-parts xs x ys (t .1) in
     let v = fresh-parts (z .slot) xs x ys (t .0) in (
       cons-fresh (x .slot) z (xs ++ ys) (record { here = λ q. v .0 (sym q); rest = u .0 }),
-      both-and (freshRow (z .slot) (xs ++ ys))
-          (rowsApart (xs ++ ys)) (v .1) (u .1),
+      both-and (freshRow (z .slot) (xs ++ ys)) (rowsApart (xs ++ ys)) (v .1) (u .1),
     )
 
 -- no slot twice

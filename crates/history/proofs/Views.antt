@@ -12,6 +12,7 @@ use Rattle.seglog.specs.Log.{View, logOf, frontOf, headOf, fittingOf}
 use Rattle.seglog.specs.New.{roomyOf}
 use Rattle.seglog.specs.declared.Segment.{Segment}
 use Rattle.seglog_prune.specs.Prune.{pruneOldestOf, pruned, pruneRecentOf, startedAt, dropOld, dropNew}
+use Rattle.recovery_walk.proofs.Count.{walk-counts}
 use Rattle.recovery_walk.specs.Images.{startOf, images}
 use Rattle.recovery_walk.specs.Rows.{rowsAll, penOf}
 use Rattle.recovery_walk.specs.Scan.{scanOf, judged}
@@ -21,24 +22,12 @@ use Rattle.recovery.specs.Recovery.{recoveryOf, recovered, keptOf, closedAt, ou
 use Rattle.history.specs.Demand.{idsIn, rowsFor, AnyOrder}
 use Rattle.history.specs.Recorded.{recordsFrom}
 use Rattle.history.proofs.Chain.{Chain}
-use Rattle.history.proofs.CountLaws.{all-counts}
 use Rattle.history.proofs.Deliver.{delivered, items, deliver-chain, live-items, items-agree}
 use Rattle.history.proofs.Invariant.{Holds, some-live}
 use Rattle.history.proofs.Kept.{Cutting, cut-all}
 use Rattle.history.proofs.Later.{After, first-same, Grows, ended-grows}
 use Rattle.history.proofs.OwnRows.{has-good, rising-rows, length-rows, inside-rows, apart-rows, lowest-rows, next-rows}
-use Rattle.history.proofs.Prunes.{
-  Inner,
-  live-low,
-  oldest-holds,
-  prune-inner,
-  New,
-  closedBy,
-  at-new,
-  endedView,
-  recent-is,
-  ended-holds,
-}
+use Rattle.history.proofs.Prunes.{Inner, live-low, oldest-holds, prune-inner, New, closedBy, at-new, endedView, recent-is, ended-holds}
 use Rattle.history.proofs.Records.{from-agree, from-front, splice-whole}
 use Rattle.history.proofs.Runs.{log-fitting}
 use Rattle.history.proofs.Same.{chain-same, old-rows}
@@ -229,7 +218,7 @@ module _ (a : View) (area : List ℕ) (z : View) (area′ : List ℕ) (f f′ : 
 
   word-count : length words ≡ 4 * idsIn s e
   word-count =
-      omega (arith, all-counts area′ (z .c) s e (rowsFor (z .segs)) false startOf (walk .d) (z .segs) [] (walk .is), counted)
+      omega (arith, walk-counts area′ (z .c) s e (rowsFor (z .segs)) false startOf (walk .d) (z .segs) [] (walk .is), counted)
 
   items-are : delivered (logOf log) area′ words ≡ items f s (idsIn s e)
   items-are =
