@@ -4,4 +4,3 @@ pub mod Written
 pub mod Steps
 pub mod RoundTrip
 pub mod Unique
-pub mod Specimens
