@@ -3,7 +3,7 @@
 use mathlib.Core.Path.{_≡_, refl, sym, ap, _∙_}
 use mathlib.Core.Bool.{Bool, true, false}
 use mathlib.Core.List.{List, [], _∷_, _++_, append-nil}
-use Prim.Native.Nat.{ℕ, zero, suc, _+_, _-_, _≤_, _<_}
+use Prim.Native.Nat.{ℕ, suc, _+_, _-_, _≤_, _<_}
 use native.Mathlib.Nat.{zero-add, add-zero}
 use native.Mathlib.Numerals.{add-one}
 use native.Mathlib.Omega.{arith}
@@ -185,7 +185,8 @@ pub record Moved (segs : List Segment) (at : ℕ) (xs out : List Segment) (most 
   pub so-far : out ≡ paste segs at xs i
 
 -- all entries are moved, and the rest is cleared
-pub shift-whole : (segs out r : List Segment) (first i : ℕ) → first ≤ 64 → Moved segs 0 (drop first segs) out (64 - first) i → 64 - first ≤ i
+pub shift-whole : (segs out r : List Segment) (first i : ℕ) → first ≤ 64 → Moved segs 0 (drop first segs) out (64 - first) i
+    → 64 - first ≤ i
     → r ≡ take (64 - first) out ++ replicate (64 - (64 - first)) noSegment → r ≡ drop first segs ++ replicate first noSegment
 shift-whole segs out r first i within m all e =
     let back : 64 - (64 - first) ≡ first = omega arith in

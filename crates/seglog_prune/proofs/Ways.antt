@@ -24,15 +24,15 @@ use lib.ListN.{
 }
 use lib.Seq.{drop-append-le, drop-cons, take-take, getD-take, take-suc}
 use lib.Dec.{ltb, leb, eqb}
-use borrow.Author.Tests.{not-true, not-false, eq-eqb, ne-eqb, lt-ltb, le-ltb, leb-true, eqb-true, eqb-false, ltb-true, ltb-false}
+use borrow.Author.Tests.{eq-eqb, ne-eqb, lt-ltb, le-ltb, leb-true, eqb-false, ltb-false}
 use Rattle.lists.specs.Choice.{pick}
 use Rattle.lists.proofs.Cases.{by-test}
 use Rattle.seglog.specs.declared.Segment.{Segment}
 use Rattle.seglog.specs.declared.Log.{Log}
-use Rattle.seglog.specs.declared.Logged.{Logged}
-use Rattle.seglog.specs.Log.{noSegment, View, logOf, viewOf, emptyOf, headOf, frontOf, chainOf, endsOf, shapedOf, zerosOf, plainOf, fitsOf, fittingOf}
-use Rattle.seglog.specs.New.{refusedLog, accepted}
-use Rattle.seglog.proofs.Bools.{and-both, clash}
+use Rattle.seglog.specs.Log.{noSegment, logOf, viewOf, emptyOf, headOf, frontOf, chainOf, endsOf, shapedOf, zerosOf, plainOf}
+use Rattle.seglog.specs.Log.{fitsOf, fittingOf}
+use Rattle.seglog.specs.New.{accepted}
+use Rattle.seglog.proofs.Bools.{and-both}
 use Rattle.seglog.proofs.View.{log-view, entriesOf, set-head, listed-length, listed-at}
 use Rattle.seglog.proofs.Fit.{SegmentGood, sizes-room, chain-is, Fitting, fitting-is}
 use Rattle.seglog.proofs.Rows.{chain-drop}
@@ -115,7 +115,8 @@ inner l bytes n e =
   where
     go : (t2 t0 t1 t8 t9 : Bool) → fittingOf l bytes ≡ t2 → eqb n 0 ≡ t0 → eqb (l .count) 0 ≡ t1 → ltb (l .end) n ≡ t8
         → ltb n (l .start) ≡ t9
-        → Onward ≡ pick (not t2) (Refused 2) (pick t0 Empty (pick t1 Same (pick t8 (Refused 8) (pick t9 (Refused 9) Onward)))) → Inner l bytes n
+        → Onward ≡ pick (not t2) (Refused 2) (pick t0 Empty (pick t1 Same (pick t8 (Refused 8) (pick t9 (Refused 9) Onward))))
+        → Inner l bytes n
     go false t0 t1 t8 t9 e2 e0 e1 e8 e9 h = absurd (let z : _≡_ {A = ℕ} 0 1 = cc in omega arith)
     go true true t1 t8 t9 e2 e0 e1 e8 e9 h = absurd (let z : _≡_ {A = ℕ} 0 1 = cc in omega arith)
     go true false true t8 t9 e2 e0 e1 e8 e9 h = absurd (let z : _≡_ {A = ℕ} 0 1 = cc in omega arith)
@@ -140,7 +141,12 @@ pub fits-plain : (l : Log) (bytes : ℕ) → fittingOf l bytes ≡ true → plai
 unfolding fittingOf
 fits-plain l bytes h = and-both (plainOf l) (shapedOf (viewOf l) && eqb bytes (l .k * l .c)) h .0
 
-same-fits : (l : Log) (bytes n : ℕ) → Same ≡ earlyOf l bytes n → fittingOf l bytes ≡ true
+-- the two easy outcomes are those of logs that fit
+pub empty-fits : (l : Log) (bytes n : ℕ) → Empty ≡ earlyOf l bytes n → fittingOf l bytes ≡ true
+empty-fits l bytes n e =
+    by-test (fittingOf l bytes) (λ h. h) (λ h. let z = early-2 l bytes n h in absurd (let y : _≡_ {A = ℕ} 0 1 = cc in omega arith))
+
+pub same-fits : (l : Log) (bytes n : ℕ) → Same ≡ earlyOf l bytes n → fittingOf l bytes ≡ true
 same-fits l bytes n e =
     by-test (fittingOf l bytes) (λ h. h) (λ h. let z = early-2 l bytes n h in absurd (let y : _≡_ {A = ℕ} 0 1 = cc in omega arith))
 
@@ -196,7 +202,8 @@ module _ (l : Log) (area : List ℕ) (n : ℕ) (rest : Pruning) (long : length (
   pub settle : (e : Early) → e ≡ earlyOf l (length area) n → OneOf (0 ∷ 1 ∷ 2 ∷ []) (tagOf the-type e) → Settled e
   settle e h tag = go e h tag (early-decides ∙ ap (outcomeOf l area rest) (sym h))
     where
-      go : (e : Early) → e ≡ earlyOf l (length area) n → OneOf (0 ∷ 1 ∷ 2 ∷ []) (tagOf the-type e) → outcome ≡ outcomeOf l area rest e → Settled e
+      go : (e : Early) → e ≡ earlyOf l (length area) n → OneOf (0 ∷ 1 ∷ 2 ∷ []) (tagOf the-type e) → outcome ≡ outcomeOf l area rest e
+          → Settled e
       go (Refused m) h tag o = record { answer = ap (pruneAnswer l) (sym o); bytes = ap (pruneArea area) (sym o) }
       go Empty h tag o = record { answer = ap (pruneAnswer l) (sym o); bytes = ap (pruneArea area) (sym o) }
       go Same h tag o =
@@ -249,9 +256,11 @@ started-is l n first segs long plain within kept e =
     let count : l .count - first ≡ length (dropOld n gs) = sym (ap length kept ∙ many) in
     let same : segs ≡ dropOld n gs ++ replicate (64 - length (dropOld n gs)) noSegment =
     e ∙ ap (λ (x : List Segment). drop first x ++ replicate first noSegment) entries
-    ∙ ap (λ (x : List Segment). x ++ replicate first noSegment) (drop-append-le first gs (replicate (64 - length gs) noSegment) (omega arith))
+    ∙ ap (λ (x : List Segment). x ++ replicate first noSegment)
+    (drop-append-le first gs (replicate (64 - length gs) noSegment) (omega arith))
     ∙ append-assoc (drop first gs) (replicate (64 - length gs) noSegment) (replicate first noSegment)
-    ∙ ap (λ (x : List Segment). drop first gs ++ x) (replicate-append-replicate (64 - length gs) first noSegment ∙ ap (λ (k : ℕ). replicate k noSegment) room)
+    ∙ ap (λ (x : List Segment). drop first gs ++ x) (replicate-append-replicate (64 - length gs) first noSegment ∙ ap
+    (λ (k : ℕ). replicate k noSegment) room)
     ∙ ap (λ (x : List Segment). x ++ replicate (64 - length x) noSegment) (sym kept) in
     λ i. record { k = l .k; c = l .c; m = l .m; start = n; end = l .end; count = count i; segs = same i }
 
@@ -264,7 +273,7 @@ unfolding recentLog pruneRecentOf
 recent-settled l area n long e h tag = let s = settle l area n _ long e h tag in (s .answer, s .bytes)
 
 -- where the first segment begins at n or before, some segment stays
-some-stays : (n s e : ℕ) (gs : List Segment) → 0 < length gs → endsOf s e gs ≡ true → s ≤ n → 0 < length (dropNew n gs)
+pub some-stays : (n s e : ℕ) (gs : List Segment) → 0 < length gs → endsOf s e gs ≡ true → s ≤ n → 0 < length (dropNew n gs)
 unfolding dropNew endsOf
 some-stays n s e [] some ends low = absurd (omega arith)
 some-stays n s e (g ∷ gs) some ends low = go (dropNew n gs)
@@ -272,7 +281,8 @@ some-stays n s e (g ∷ gs) some ends low = go (dropNew n gs)
     first-low : g .min ≤ s
     first-low = leb-true (g .min) s (first-test ends)
       where
-        first-test : (leb (g .min) s && leb s (g .max) && eqb (headOf (g ∷ gs) .size % 4096) 0 && eqb (headOf (g ∷ gs) .max) e) ≡ true → leb (g .min) s ≡ true
+        first-test : (leb (g .min) s && leb s (g .max) && eqb (headOf (g ∷ gs) .size % 4096) 0 && eqb (headOf (g ∷ gs) .max) e) ≡ true
+            → leb (g .min) s ≡ true
         first-test h = and-both _ _ (and-both _ _ (and-both _ _ h .0) .0) .0
 
     go : (hs : List Segment) → 0 < length (keepAt n g hs)
@@ -335,7 +345,8 @@ module _ (l : Log) (area : List ℕ) (n left : ℕ) (staying : Staying l area n 
   unfolding recentLog pruneRecentOf
   recent-is =
       onward l area n _ long (staying .onward)
-      ∙ ap (λ (g : Segment). cutOff (viewOf l) area n (frontOf (dropNew n (take (l .count) (l .segs)))) g (findCut (imageIn area (l .c) g) n 0)) head-is
+      ∙ ap (λ (g : Segment). cutOff (viewOf l) area n (frontOf (dropNew n (take (l .count) (l .segs)))) g
+      (findCut (imageIn area (l .c) g) n 0)) head-is
       ∙ ap (λ (hs : List Segment). cutOff (viewOf l) area n hs head (findCut (imageIn area (l .c) head) n 0)) front-is
 
   -- refusal 10

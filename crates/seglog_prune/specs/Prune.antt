@@ -1,6 +1,6 @@
 -- The two prunes, as document 01 says them: 2, the two easy outcomes, 8, 9, and for prune recent 10. Assumes nothing.
 use mathlib.Core.List.{List, [], _∷_, _++_}
-use mathlib.Core.Bool.{Bool, true, false, not}
+use mathlib.Core.Bool.{not}
 use Prim.Native.Nat.{ℕ, _+_, _-_, _*_}
 use lib.ListN.{length, replicate}
 use lib.Dec.{ltb, eqb}

@@ -1,9 +1,8 @@
 -- `seglog_prune::cleared` meets its contract: the zeros are written over the entries one by one.
 -- Assumes nothing.
-use mathlib.Core.Path.{_≡_, _∙_}
+use mathlib.Core.Path.{_∙_}
 use Prim.Native.Nat.{_-_}
 use lib.ListN.{replicate}
-use native.Mathlib.Omega.{arith}
 use Rattle.seglog.specs.Log.{noSegment}
 use Rattle.seglog_prune.proofs.Drops.{Moved, paste-none, clear-turn, clear-end}
 use borrow.Author.Needs.{needs}
@@ -17,7 +16,12 @@ abbrev μ-loop : tie.MeasureT-loop
 μ-loop left out₀ i₀ out i = 64 - left - i
 
 loop-holds : tie.Need-loop-holds Inv-loop μ-loop
-loop-holds c = record { long = search needs; within = search needs; so-far = paste-none (c .args .segs) (replicate (64 - c .args .left) noSegment) (c .args .left) }
+loop-holds c = record {
+  long = search needs;
+  within = search needs;
+  so-far = paste-none (c .args .segs)
+      (replicate (64 - c .args .left) noSegment) (c .args .left);
+}
 
 sub-loop : tie.Need-sub-loop Inv-loop μ-loop
 sub-loop c = search needs

@@ -2,7 +2,6 @@
 -- Assumes nothing.
 use mathlib.Core.Path.{_≡_, sym, _∙_}
 use mathlib.Core.Bool.{true}
-use native.Mathlib.Omega.{arith}
 use borrow.Author.Tests.{not-true, not-false}
 use Rattle.seglog.specs.Log.{fittingOf}
 use Rattle.seglog_prune.proofs.Ways.{early-2, early-empty, early-same, early-8, early-9, early-onward}

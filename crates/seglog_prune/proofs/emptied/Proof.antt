@@ -1,6 +1,5 @@
 -- `seglog_prune::emptied` meets its contract.
 -- Assumes nothing.
-use mathlib.Core.Path.{_≡_}
 use borrow.Author.Needs.{needs}
 use Rattle.seglog_prune.proofs.emptied.Statement.{statement}
 use Rattle.seglog_prune.proofs.emptied.Tie as tie

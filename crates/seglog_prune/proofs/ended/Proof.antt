@@ -1,8 +1,6 @@
 -- `seglog_prune::ended` meets its contract: the entries behind are cleared, and the last segment ends at x.
 -- Assumes nothing.
 use mathlib.Core.Path.{_≡_, refl}
-use Prim.Native.Nat.{_≤_}
-use native.Mathlib.Omega.{arith}
 use lib.ListN.{length}
 use Rattle.seglog.proofs.View.{unmapped}
 use Rattle.seglog_prune.proofs.Ways.{ended-is}

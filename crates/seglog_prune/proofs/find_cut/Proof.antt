@@ -10,7 +10,7 @@ use Rattle.page.proofs.Page.{pad-ge, pad-lt}
 use Rattle.record.specs.Record.{headerAt}
 use Rattle.record.specs.declared.HeaderAnswer.the-variants.{Header}
 use Rattle.seglog_prune.specs.Prune.{findCut, cutAt}
-use Rattle.seglog_prune.proofs.Cut.{AtCut, nextAt, cut-end, cut-unread, cut-lost, cut-here, cut-on}
+use Rattle.seglog_prune.proofs.Cut.{AtCut, cut-end, cut-unread, cut-lost, cut-here, cut-on}
 use borrow.Author.Needs.{needs}
 use Rattle.seglog_prune.proofs.find_cut.Statement.{statement}
 use Rattle.seglog_prune.proofs.find_cut.Tie as tie
@@ -49,7 +49,8 @@ enum-known-header c = search needs
 returns : tie.Need-returns Inv-loop μ-loop
 returns c =
     let turn = c .before .before in
-    sym (turn .before .loop .inv .so-far ∙ cut-unread (img-of turn) _ (at-of turn) (inside turn) _ (c .before .read-header .ensures) (c .match .keys2))
+    sym (turn .before .loop .inv .so-far ∙ cut-unread (img-of turn) _ (at-of turn) (inside turn) _ (c .before .read-header .ensures)
+    (c .match .keys2))
 
 add-end : tie.Need-add-end Inv-loop μ-loop
 add-end c = search needs
@@ -76,7 +77,8 @@ returns-3 : tie.Need-returns-3 Inv-loop μ-loop
 returns-3 c =
     let told = c .before .before .before .before .before in
     let turn = in-of told in
-    sym (turn .before .loop .inv .so-far ∙ cut-here (img-of turn) _ (at-of turn) (inside turn) _ (read told) (c .before .before .before .if1 .left) (c .if2 .taken)
+    sym (turn .before .loop .inv .so-far ∙ cut-here (img-of turn) _ (at-of turn) (inside turn) _ (read told)
+    (c .before .before .before .if1 .left) (c .if2 .taken)
     ∙ ap cutAt (sym (c .before .before .reader-next-pos .ensures)))
 
 -- the next record begins behind this one, and less than a page behind it

@@ -1,9 +1,7 @@
 -- `seglog_prune::leading` meets its contract: each turn passes a segment that goes.
 -- Assumes nothing.
-use mathlib.Core.Path.{_≡_, refl, sym, ap, _∙_}
-use Prim.Native.Nat.{_+_, _-_, _≤_, _<_}
-use lib.ListN.{length, take}
-use native.Mathlib.Omega.{arith}
+use mathlib.Core.Path.{refl}
+use Prim.Native.Nat.{_-_}
 use Rattle.seglog_prune.proofs.Drops.{Leads, leads-next, leads-stop, leads-end}
 use borrow.Author.Needs.{needs}
 use Rattle.seglog_prune.proofs.leading.Statement.{statement}

@@ -33,7 +33,8 @@ returns : tie.Need-returns
 returns c =
     let early = c .before .before in
     let s = early .before .before in
-    let both = oldest-settled (s .args .log) (s .args .area .now) (s .args .new-start-live) (long-of s) _ (early .decide-early .ensures) (c .before .match .keys2) in
+    let both = oldest-settled (s .args .log) (s .args .area .now) (s .args .new-start-live) (long-of s) _ (early .decide-early .ensures)
+    (c .before .match .keys2) in
     (c .settled .ensures ∙ both .0, both .1)
 
 started-requires : tie.Need-started-requires

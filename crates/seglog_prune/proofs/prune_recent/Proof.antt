@@ -4,13 +4,13 @@ use mathlib.Core.Path.{_≡_, sym, ap, _∙_}
 use mathlib.Core.List.{List}
 use Prim.Native.Nat.{ℕ, _+_, _-_, _*_, _≤_, _<_}
 use native.Mathlib.Omega.{arith}
-use lib.ListN.{length, getD, take, drop, replicate, length-take, length-drop}
+use lib.ListN.{length, getD, take, drop, replicate, length-take}
 use Rattle.lists.specs.Splice.{splice}
 use Rattle.seglog.specs.declared.Log.{Log}
 use Rattle.seglog.specs.declared.Segment.{Segment}
 use Rattle.seglog.specs.Log.{noSegment}
 use Rattle.seglog.specs.Shape.{SizesObey}
-use Rattle.seglog.specs.New.{accepted, refusedLog}
+use Rattle.seglog.specs.New.{accepted}
 use Rattle.seglog.proofs.View.{unmapped}
 use Rattle.seglog.proofs.Fit.{SegmentGood}
 use Rattle.seglog_prune.specs.declared.Early.the-variants.{Onward}
@@ -96,9 +96,11 @@ module _ (c : tie.After-remaining) where
   pages = fitting _ _ _ _ (staying-of c) .sizes
 
   -- the part that is lent is the segment's image
-  image-is : take (head-of c .slot * log-of c .c + head-of c .size - head-of c .slot * log-of c .c) (drop (head-of c .slot * log-of c .c) (area-of c))
+  image-is : take (head-of c .slot * log-of c .c + head-of c .size - head-of c .slot * log-of c .c)
+      (drop (head-of c .slot * log-of c .c) (area-of c))
       ≡ imageIn (area-of c) (log-of c .c) (head-of c)
-  image-is = ap (λ (k : ℕ). take k (drop (head-of c .slot * log-of c .c) (area-of c))) (front (head-of c .slot * log-of c .c) (head-of c .size))
+  image-is = ap (λ (k : ℕ). take k (drop (head-of c .slot * log-of c .c) (area-of c)))
+      (front (head-of c .slot * log-of c .c) (head-of c .size))
     where
       front : (a b : ℕ) → a + b - a ≡ b
       front a b = omega arith
@@ -134,7 +136,8 @@ returns : tie.Need-returns
 returns c =
     let early = c .before .before in
     let s = early .before .before in
-    let both = recent-settled (s .args .log) (s .args .area .now) (s .args .new-end-live) (long-of s) _ (early .decide-early .ensures) (c .before .match .keys2) in
+    let both = recent-settled (s .args .log) (s .args .area .now) (s .args .new-end-live) (long-of s) _ (early .decide-early .ensures)
+    (c .before .match .keys2) in
     (c .settled .ensures ∙ both .0, both .1)
 
 remaining-requires : tie.Need-remaining-requires
@@ -187,7 +190,8 @@ returns-2 : tie.Need-returns-2
 returns-2 c =
     let cut = c .before .before in
     let r = left-at cut in
-    let is = recent-lost (log-of r) (area-of r) (end-of r) (left-of r) (staying-of r) (sym (found cut) ∙ ap cutOf (c .enum-told2 .given .1)) in
+    let is = recent-lost (log-of r) (area-of r) (end-of r) (left-of r) (staying-of r)
+    (sym (found cut) ∙ ap cutOf (c .enum-told2 .given .1)) in
     (ap (pruneAnswer (log-of r)) (sym is), ap (pruneArea (area-of r)) (sym is))
 
 add-zero-fill : tie.Need-add-zero-fill
@@ -211,7 +215,8 @@ returns-3 c =
     let told = c .before .before .before .before .before in
     let r = left-at (told .before .before .before) in
     let x = told .before .end .given .0 .0 in
-    let zeros : head-of r .slot * log-of r .c + x - (head-of r .slot * log-of r .c + head-of r .size) ≡ x - head-of r .size = omega arith in (
+    let zeros : head-of r .slot * log-of r .c + x - (head-of r .slot * log-of r .c + head-of r .size) ≡ x - head-of r .size = omega arith
+    in (
       ap accepted (c .ended .ensures) ∙ recent-answer (log-of r) (area-of r) (end-of r) (left-of r) (staying-of r) x (cut-of told),
       c .before .before .before .zero-fill .ensures
           ∙ ap (λ (k : ℕ). splice (head-of r .slot * log-of r .c + head-of r .size) (replicate k 0) (area-of r)) zeros

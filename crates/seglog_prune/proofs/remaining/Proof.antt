@@ -1,8 +1,6 @@
 -- `seglog_prune::remaining` meets its contract: each turn passes a segment that goes.
 -- Assumes nothing.
-use mathlib.Core.Path.{_≡_, refl, sym, ap, _∙_}
-use Prim.Native.Nat.{_+_, _-_, _≤_, _<_}
-use lib.ListN.{length, take}
+use mathlib.Core.Path.{refl, _∙_}
 use native.Mathlib.Omega.{arith}
 use Rattle.seglog_prune.proofs.Drops.{Trails, new-on, new-stay, new-none}
 use borrow.Author.Needs.{needs}

@@ -1,6 +1,6 @@
 -- `seglog_prune::settled` meets its contract, case by case.
 -- Assumes nothing.
-use mathlib.Core.Path.{_≡_, sym, ap, _∙_}
+use mathlib.Core.Path.{sym, ap, _∙_}
 use Rattle.seglog.specs.New.{accepted}
 use Rattle.seglog_prune.specs.Steps.{settledOf}
 use Rattle.seglog_prune.proofs.Ways.{settled-given}

@@ -1,13 +1,8 @@
 -- `seglog_prune::shifted` meets its contract: the entries are moved one by one, and what is left behind them is cleared.
 -- Assumes nothing.
-use mathlib.Core.Path.{_≡_, ap, _∙_}
-use mathlib.Core.List.{List, _++_}
-use Prim.Native.Nat.{ℕ, _-_}
-use lib.ListN.{drop, replicate}
-use native.Mathlib.Omega.{arith}
-use Rattle.seglog.specs.declared.Segment.{Segment}
-use Rattle.seglog.specs.Log.{noSegment}
-use Rattle.seglog_prune.proofs.Drops.{Moved, paste-none, shift-turn, shift-whole}
+use Prim.Native.Nat.{_-_}
+use lib.ListN.{drop}
+use Rattle.seglog_prune.proofs.Drops.{Moved, shift-turn, shift-whole}
 use borrow.Author.Needs.{needs}
 use Rattle.seglog_prune.proofs.shifted.Statement.{statement}
 use Rattle.seglog_prune.proofs.shifted.Tie as tie
@@ -51,7 +46,8 @@ loop-again c =
     record {
       long = l .inv .long;
       within = search needs;
-      so-far = shift-turn 64 _ (l .inv .long) (c .before .before .before .args .first) (search needs) (l .out) (l .i) (search needs) (l .inv .so-far);
+      so-far = shift-turn 64 _ (l .inv .long) (c .before .before .before .args .first) (search needs) (l .out) (l .i) (search needs)
+          (l .inv .so-far);
     }
 
 sub-cleared : tie.Need-sub-cleared Inv-loop μ-loop

@@ -1,7 +1,6 @@
 -- `seglog_prune::started` meets its contract: the leading segments that go, and the others moved to the front.
 -- Assumes nothing.
-use mathlib.Core.Path.{_≡_, refl}
-use Prim.Native.Nat.{_≤_}
+use mathlib.Core.Path.{_≡_}
 use native.Mathlib.Omega.{arith}
 use lib.ListN.{length}
 use Rattle.seglog.proofs.View.{unmapped}
