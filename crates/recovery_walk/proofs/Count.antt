@@ -1,6 +1,6 @@
 -- An accepted walk has counted its rows: four words for each live record.
 -- Assumes nothing.
-use mathlib.Core.Path.{_≡_, refl, sym, ap, _∙_}
+use mathlib.Core.Path.{_≡_, refl, ap, _∙_}
 use mathlib.Core.List.{List, [], _∷_, _++_}
 use mathlib.Core.Bool.{Bool, true, false}
 use Prim.Native.Nat.{ℕ, _+_, _*_}
@@ -45,7 +45,8 @@ module _ (img : List ℕ) (slot s e : ℕ) where
   next c d a h m ih z q ws =
       let w = went img s e c d m in
       let row : List ℕ = rowOf (liveOf s e (d .last)) (d .last) slot (d .body) (d .len) in
-      let on : rowsIn img slot s e (penWith ws c) ≡ rowsIn img slot s e (penWith (ws ++ row) d) = rows-next img slot s e (penWith ws c) d h m in
+      let on : rowsIn img slot s e (penWith ws c) ≡ rowsIn img slot s e (penWith (ws ++ row) d) =
+      rows-next img slot s e (penWith ws c) d h m in
       let i = ih z q (ws ++ row) in
       let live : d .live ≡ pick (liveOf s e (d .last)) (c .live + 1) (c .live) = rw (w .to) refl in
       record {
@@ -77,6 +78,11 @@ module _ (img : List ℕ) (slot s e : ℕ) where
             count = omega (arith, ap (λ (p : Pen). length (p .words)) stays, ap (λ (x : Scan). x .live) is);
           }
 
+  -- the second pass of such an image ends in the walk's state
+  pub image-pen : (c d : Scan) (ws : List ℕ) → records img s e c ≡ Next d
+      → rowsIn img slot s e (penWith ws c) ≡ penWith (rowsIn img slot s e (penWith ws c) .words) d
+  image-pen c d ws q = ap (λ (x : Scan). penWith (rowsIn img slot s e (penWith ws c) .words) x) (image-counts c d ws q .same)
+
 -- an accepted walk has counted its rows
 pub walk-counts : (area : List ℕ) (n s e : ℕ) (rs : List ImageRow) (gap : Bool) (c d : Scan) (hs : List Segment) (ws : List ℕ)
     → images area n s e rs gap c ≡ walked d hs → length (rowsAll area n s e rs (penWith ws c)) + 4 * c .live ≡ length ws + 4 * d .live
@@ -86,10 +92,10 @@ walk-counts area n s e (r ∷ rs) gap c d hs ws q =
     let f = first-walked area n s e r rs gap c d hs q in
     let i = image-counts (imageOf area n r) (r .slot) s e (openedOf c) (f .state) ws (f .ended) in
     let here : Pen = rowsIn (imageOf area n r) (r .slot) s e (penWith ws (openedOf c)) in
-    let from : here ≡ penWith (here .words) (f .state) = ap (λ (x : Scan). penWith (here .words) x) (i .same) in
+    let to : here ≡ penWith (here .words) (f .state) = image-pen (imageOf area n r) (r .slot) s e (openedOf c) (f .state) ws (f .ended) in
     omega (
       arith,
       walk-counts area n s e rs (eqb (r .size) 0) (f .state) d (f .later) (here .words) (f .on),
       i .count,
-      ap (λ (p : Pen). length (rowsAll area n s e rs p)) from,
+      ap (λ (p : Pen). length (rowsAll area n s e rs p)) to,
     )

@@ -8,8 +8,7 @@ use Prim.Native.Nat.{ℕ, _+_, _-_, _*_, _≤_, _<_}
 use native.Mathlib.Omega.{arith}
 use lib.ListN.{length, getD, take, drop, length-take, length-drop}
 use lib.Seq.{getD-take, getD-drop}
-use lib.Dec.{ltb, eqb}
-use borrow.Author.Tests.{lt-ltb, ltb-false}
+use lib.Dec.{eqb}
 use Rattle.lists.specs.Splice.{part, splice}
 use Rattle.lists.proofs.Cases.{by-test, by-order}
 use Rattle.lists.proofs.Splice.{part-part, splice-before, splice-after, splice-length}
@@ -25,16 +24,17 @@ use Rattle.recovery_walk.specs.declared.Scan.{Scan}
 use Rattle.recovery_walk.specs.declared.Scanned.{Scanned}
 use Rattle.recovery_walk.specs.declared.Step.{Step}
 use Rattle.recovery_walk.specs.declared.Step.the-variants.{Next, Fault}
-use Rattle.recovery_walk.specs.Step.{recordStep, afterHeader, moreOf, gapOf, liveOf}
+use Rattle.recovery_walk.specs.Step.{recordStep, afterHeader, moreOf, gapOf}
 use Rattle.recovery_walk.specs.Images.{Outcome, refused, walked, records, images, imageOf, openedOf, startOf, behind, filledOf}
 use Rattle.recovery_walk.specs.Rows.{Pen, movedOf, rowsIn, rowsAll, penOf}
 use Rattle.recovery_walk.specs.Scan.{judged, scanOf, scannedOf, indexOf, ScanDid}
-use Rattle.recovery_walk.specs.Headers.{EachHeader, image-over, header-short, header-here, EachWalked, no-image, gap-over, image-here, SameHeader}
+use Rattle.recovery_walk.specs.Headers.{EachHeader, image-over, header-short, header-here, EachWalked, no-image, gap-over}
+use Rattle.recovery_walk.specs.Headers.{image-here, SameHeader}
 use Rattle.recovery_walk.proofs.StepCases.{went}
 use Rattle.recovery_walk.proofs.RecordCases.{records-end, records-next, records-fault, records-ind}
 use Rattle.recovery_walk.proofs.ImageCases.{images-gapped, images-fault, images-next, first-walked}
 use Rattle.recovery_walk.proofs.RowWords.{rows-end, rows-next, rows-fault}
-use Rattle.recovery_walk.proofs.Count.{penWith, image-counts}
+use Rattle.recovery_walk.proofs.Count.{penWith, image-pen}
 
 -- what the scans of two areas agree in: the outcome, and what any index is afterwards
 pub record ScansAgree (area area′ : List ℕ) (n s e : ℕ) (rows : List ImageRow) (words : ℕ) : Type 0 where
@@ -45,7 +45,8 @@ pub record ScansAgree (area area′ : List ℕ) (n s e : ℕ) (rows : List Image
 -- ---- one header
 
 -- the n bytes inside a header that two images share spell the same number
-field-agrees : (img img′ : List ℕ) (pos at n : ℕ) → pos ≤ at → at + n ≤ pos + 12 → part pos 12 img ≡ part pos 12 img′ → leAt n img at ≡ leAt n img′ at
+field-agrees : (img img′ : List ℕ) (pos at n : ℕ) → pos ≤ at → at + n ≤ pos + 12 → part pos 12 img ≡ part pos 12 img′
+    → leAt n img at ≡ leAt n img′ at
 field-agrees img img′ pos at n low high same = le-agree n img img′ at byte
   where
     inside : (l : List ℕ) (j : ℕ) → at ≤ j → j < at + n → getD (part pos 12 l) (j - pos) 0 ≡ getD l j 0
@@ -57,7 +58,8 @@ field-agrees img img′ pos at n low high same = le-agree n img img′ at byte
     byte j a b = sym (inside img j a b) ∙ ap (λ (l : List ℕ). getD l (j - pos) 0) same ∙ inside img′ j a b
 
 -- a header is read from the image's length and its twelve bytes
-pub header-depends : (img img′ : List ℕ) (pos : ℕ) → length img ≡ length img′ → part pos 12 img ≡ part pos 12 img′ → headerAt img pos ≡ headerAt img′ pos
+pub header-depends : (img img′ : List ℕ) (pos : ℕ) → length img ≡ length img′ → part pos 12 img ≡ part pos 12 img′
+    → headerAt img pos ≡ headerAt img′ pos
 unfolding headerAt
 header-depends img img′ pos long same =
     let four : leAt 4 img pos ≡ leAt 4 img′ pos = field-agrees img img′ pos pos 4 (omega arith) (omega arith) same in
@@ -111,7 +113,8 @@ module _ (area area′ : List ℕ) (n s e : ℕ) (long : length area ≡ length 
     -- induction along two walks at once, from a state on: each step is the same in both
     module _ (Q : Scan → Type 0) (end : (c : Scan) → moreOf c (length img) ≡ false → Q c)
         (fault : (c : Scan) (m : ℕ) → moreOf c (length img) ≡ true → recordStep img s e c ≡ Fault m → recordStep img′ s e c ≡ Fault m → Q c)
-        (next : (c d : Scan) → moreOf c (length img) ≡ true → recordStep img s e c ≡ Next d → recordStep img′ s e c ≡ Next d → Q d → Q c) where
+        (next : (c d : Scan) → moreOf c (length img) ≡ true → recordStep img s e c ≡ Next d → recordStep img′ s e c ≡ Next d → Q d
+        → Q c) where
       turn : (c : Scan) → recordStep img s e c ≡ recordStep img′ s e c → ((d : Scan) → recordStep img s e c ≡ Next d → Q d) → Q c
       turn c same on = by-test (moreOf c (length img)) (λ h. go h (recordStep img s e c) refl) (λ h. end c h)
         where
@@ -184,8 +187,7 @@ module _ (area area′ : List ℕ) (n s e : ℕ) (long : length area ≡ length 
   rows-depend (r ∷ rs) gap c d hs ws (image-here w k) q =
       let f = first-walked area n s e r rs gap c d hs q in
       let here : Pen = rowsIn (imageOf area n r) (r .slot) s e (penWith ws (openedOf c)) in
-      let to : here ≡ penWith (here .words) (f .state) =
-      ap (λ (x : Scan). penWith (here .words) x) (image-counts (imageOf area n r) (r .slot) s e (openedOf c) (f .state) ws (f .ended) .same) in
+      let to : here ≡ penWith (here .words) (f .state) = image-pen (imageOf area n r) (r .slot) s e (openedOf c) (f .state) ws (f .ended) in
       ap (rowsAll area n s e rs) to
       ∙ rows-depend rs (eqb (r .size) 0) (f .state) d (f .later) (here .words) (k (f .state) (f .ended)) (f .on)
       ∙ ap (rowsAll area′ n s e rs) (sym to ∙ rows-in-depend r (openedOf c) w ws)
@@ -229,6 +231,7 @@ each-header-map P Q to area n s e r c (image-over h) = image-over h
 each-header-map P Q to area n s e r c (header-short h) = header-short h
 each-header-map P Q to area n s e r c (header-here p k) = header-here (to _ p) (λ d m. each-header-map P Q to area n s e r d (k d m))
 
+-- the same over all images
 pub each-map : (P Q : ℕ → Type 0) (to : (p : ℕ) → P p → Q p) (area : List ℕ) (n s e : ℕ) (rs : List ImageRow) (gap : Bool) (c : Scan)
     → EachWalked P area n s e rs gap c → EachWalked Q area n s e rs gap c
 each-map P Q to area n s e [] gap c no-image = no-image

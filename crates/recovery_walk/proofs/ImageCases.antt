@@ -1,6 +1,6 @@
 -- The laws of the images: the ways of one image, what an accepted walk tells of its first image, and the numbers of a refusal.
 -- Assumes nothing.
-use mathlib.Core.Path.{_≡_, refl, sym, ap, _∙_}
+use mathlib.Core.Path.{_≡_, refl, sym, ap}
 use mathlib.Core.List.{List, [], _∷_}
 use mathlib.Core.Bool.{Bool, true, false}
 use Prim.Native.Nat.{ℕ, _≤_}
@@ -51,9 +51,13 @@ module _ (area : List ℕ) (n s e : ℕ) (r : ImageRow) (rs : List ImageRow) (ga
       rest : Scan → Outcome
       rest x = behind (filledOf r x ∷ []) (images area n s e rs (eqb (r .size) 0) x)
 
-      tail : (m : Scan) (o : Outcome) → behind (filledOf r m ∷ []) o ≡ walked d hs → (xs : List Segment) × (o ≡ walked d xs) × (hs ≡ filledOf r m ∷ xs)
+      tail : (m : Scan) (o : Outcome) → behind (filledOf r m ∷ []) o ≡ walked d hs
+          → (xs : List Segment) × (o ≡ walked d xs) × (hs ≡ filledOf r m ∷ xs)
       tail m (refused k) t = absurd (let y : _≡_ {A = ℕ} 0 1 = cc in omega arith)
-      tail m (walked x xs) t = let same : x ≡ d = cc in let all : filledOf r m ∷ xs ≡ hs = cc in (xs, ap (λ (y : Scan). walked y xs) same, sym all)
+      tail m (walked x xs) t =
+          let same : x ≡ d = cc in
+          let all : filledOf r m ∷ xs ≡ hs = cc in
+          (xs, ap (λ (y : Scan). walked y xs) same, sym all)
 
       go : (b : Bool) (o : Step) → gapOf c gap (r .size) ≡ b → records (imageOf area n r) s e (openedOf c) ≡ o
           → pick b (refused 16) (after o rest) ≡ walked d hs → FirstWalked d hs
@@ -63,17 +67,20 @@ module _ (area : List ℕ) (n s e : ℕ) (r : ImageRow) (rs : List ImageRow) (ga
           let w = tail m (images area n s e rs (eqb (r .size) 0) m) z in
           record { state = m; later = w .0; calm = g; ended = t; on = w .1; segments = w .2 }
 
--- a refusal of the walk is 16 to 20
+-- the numbers of a walk's refusals
 pub record WalkFault (m : ℕ) : Type 0 where
   pub low : 16 ≤ m
   pub high : m ≤ 20
 
-pub images-number : (area : List ℕ) (n s e : ℕ) (rs : List ImageRow) (gap : Bool) (c : Scan) (m : ℕ) → images area n s e rs gap c ≡ refused m
+-- a refusal of the walk is 16 to 20
+pub images-number : (area : List ℕ) (n s e : ℕ) (rs : List ImageRow) (gap : Bool) (c : Scan) (m : ℕ)
+    → images area n s e rs gap c ≡ refused m
     → WalkFault m
 unfolding images
 images-number area n s e [] gap c m q = absurd (let y : _≡_ {A = ℕ} 0 1 = cc in omega arith)
 images-number area n s e (r ∷ rs) gap c m q =
-    go (gapOf c gap (r .size)) (records (imageOf area n r) s e (openedOf c)) refl q (λ d z. images-number area n s e rs (eqb (r .size) 0) d m z)
+    go (gapOf c gap (r .size)) (records (imageOf area n r) s e (openedOf c)) refl q
+    (λ d z. images-number area n s e rs (eqb (r .size) 0) d m z)
   where
     rest : Scan → Outcome
     rest x = behind (filledOf r x ∷ []) (images area n s e rs (eqb (r .size) 0) x)

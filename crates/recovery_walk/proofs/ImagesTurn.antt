@@ -3,11 +3,12 @@
 use mathlib.Core.Path.{_≡_, refl, sym, ap, _∙_}
 use mathlib.Core.List.{List, [], _∷_, _++_, append-assoc, append-nil}
 use mathlib.Core.Bool.{Bool, true, false}
-use Prim.Native.Nat.{ℕ, zero, suc, _+_, _-_, _*_, _^_, _≤_, _<_}
+use Prim.Native.Nat.{ℕ, suc, _+_, _-_, _*_, _≤_, _<_}
 use native.Mathlib.Nat.{add-sub-cancel-left}
 use native.Mathlib.Numerals.{add-one}
 use native.Mathlib.Omega.{arith}
-use lib.ListN.{length, take, drop, set, replicate, length-set, length-take, length-replicate, replicate-append-replicate, take-append-drop, drop-of-length-le}
+use lib.ListN.{length, take, drop, set, replicate, length-set, length-take, length-replicate, replicate-append-replicate}
+use lib.ListN.{take-append-drop, drop-of-length-le}
 use lib.Seq.{drop-cons, drop-drop, drop-at, drop-set-lt, take-suc-set, getD-take}
 use lib.Dec.{eqb}
 use borrow.Author.Tests.{eq-eqb, ne-eqb}
@@ -17,11 +18,11 @@ use Rattle.seglog.specs.declared.Segment.{Segment}
 use Rattle.seglog.specs.Log.{noSegment}
 use Rattle.recovery_walk.specs.declared.ImageRow.{ImageRow}
 use Rattle.recovery_walk.specs.declared.Scan.{Scan}
-use Rattle.recovery_walk.specs.declared.Scanned.{Scanned}
 use Rattle.recovery_walk.specs.declared.Step.{Step}
 use Rattle.recovery_walk.specs.declared.Step.the-variants.{Next, Fault}
 use Rattle.recovery_walk.specs.Step.{gapOf}
-use Rattle.recovery_walk.specs.Images.{Outcome, refused, walked, records, startOf, openedOf, filledOf, imageOf, after, behind, images, rowAt, noRow}
+use Rattle.recovery_walk.specs.Images.{Outcome, refused, walked, records, startOf, openedOf, filledOf, imageOf, after, behind}
+use Rattle.recovery_walk.specs.Images.{images, rowAt, noRow}
 use Rattle.recovery_walk.specs.Scan.{scannedOf, settledOf}
 
 -- no segments in front change nothing
@@ -46,6 +47,13 @@ part-image area n r = ap (λ (m : ℕ). take m (drop (r .slot * n) area)) (add-s
 pub part-size : (area : List ℕ) (n : ℕ) (r : ImageRow) → r .slot * n + r .size ≤ length area → length (partOf area n r) ≡ r .size
 part-size area n r h = ap length (part-image area n r) ∙ part-length (r .slot * n) (r .size) area h
 
+-- the first k rows from the i-th on
+pub rows-from : (rows : List ImageRow) (k i : ℕ) → k ≤ 64 → length rows ≡ 64 → i < k
+    → drop i (take k rows) ≡ rowAt rows i ∷ drop (suc i) (take k rows)
+rows-from rows k i few all more =
+    drop-cons (take k rows) i noRow (rw length-take (omega arith))
+    ∙ ap (λ (r : ImageRow). r ∷ drop (suc i) (take k rows)) (getD-take k rows i noRow more)
+
 -- the entries of no segment from a later place on
 pub zeros-later : (i j : ℕ) (gs : List Segment) → i ≤ j → j ≤ 64 → drop i gs ≡ replicate (64 - i) noSegment
     → drop j gs ≡ replicate (64 - j) noSegment
@@ -58,7 +66,8 @@ zeros-later i j gs h g e =
     ∙ drop-at (zeros (j - i)) (zeros (64 - j)) (j - i) (length-replicate (j - i) noSegment)
 
 -- what holds at the head of the images' loop
-pub record AtImages (area : List ℕ) (n k s e : ℕ) (rows : List ImageRow) (segs : List Segment) (scan : Scan) (fault : ℕ) (gap : Bool) (i : ℕ) : Type 0 where
+pub record AtImages (area : List ℕ) (n k s e : ℕ) (rows : List ImageRow) (segs : List Segment) (scan : Scan) (fault : ℕ) (gap : Bool)
+    (i : ℕ) : Type 0 where
   pub upto : i ≤ k
   pub long : length segs ≡ 64
   pub none : fault ≡ 0
@@ -78,7 +87,15 @@ module _ (area : List ℕ) (n k s e : ℕ) (rows : List ImageRow) (few : k ≤ 6
 
   -- before the first image
   pub at-first : AtImages area n k s e rows (replicate 64 noSegment) startOf 0 false 0
-  at-first = record { upto = omega arith; long = length-replicate 64 noSegment; none = refl; counted = omega arith; rest = refl; so-far = behind-nil goal }
+  at-first =
+      record {
+        upto = omega arith;
+        long = length-replicate 64 noSegment;
+        none = refl;
+        counted = omega arith;
+        rest = refl;
+        so-far = behind-nil goal;
+      }
 
   -- a refusal is settled
   pub settled-bad : (fault : ℕ) (c : Scan) (segs : List Segment) → (fault ≡ 0 → ⊥) → refused fault ≡ goal
@@ -95,8 +112,10 @@ module _ (area : List ℕ) (n k s e : ℕ) (rows : List ImageRow) (few : k ≤ 6
         let ended : goal ≡ walked scan (take i segs) = h .so-far ∙ rw (all-gone, append-nil) refl in
         let count : length (take i segs) ≡ i = rw length-take (omega (arith, h .long)) in
         let entries : segs ≡ take i segs ++ replicate (64 - length (take i segs)) noSegment =
-        sym (take-append-drop i segs) ∙ ap (λ (l : List Segment). take i segs ++ l) (h .rest ∙ ap (λ (x : ℕ). replicate (64 - x) noSegment) (sym count)) in
-        rw (eq-eqb _ _ (h .none)) (ap (λ (l : List Segment). record { fault = 0; scan = scan; segs = l }) entries ∙ sym (ap scannedOf ended))
+        sym (take-append-drop i segs)
+        ∙ ap (λ (l : List Segment). take i segs ++ l) (h .rest ∙ ap (λ (x : ℕ). replicate (64 - x) noSegment) (sym count)) in
+        rw (eq-eqb _ _ (h .none))
+        (ap (λ (l : List Segment). record { fault = 0; scan = scan; segs = l }) entries ∙ sym (ap scannedOf ended))
 
     module _ (more : i < k) where
       abbrev row : ImageRow
@@ -108,9 +127,7 @@ module _ (area : List ℕ) (n k s e : ℕ) (rows : List ImageRow) (few : k ≤ 6
       turn : images area n s e (drop i (take k rows)) gap scan
           ≡ pick (gapOf scan gap (row .size)) (refused 16) (after (records (imageOf area n row) s e (openedOf scan)) onto)
       unfolding images
-      turn =
-          ap (λ (l : List ImageRow). images area n s e l gap scan)
-          (drop-cons (take k rows) i noRow (rw length-take (omega arith)) ∙ ap (λ (r : ImageRow). r ∷ drop (suc i) (take k rows)) (getD-take k rows i noRow more))
+      turn = ap (λ (l : List ImageRow). images area n s e l gap scan) (rows-from rows k i few all more)
 
       -- 16
       pub turn-gapped : gapOf scan gap (row .size) ≡ true → refused 16 ≡ goal
@@ -136,9 +153,12 @@ module _ (area : List ℕ) (n k s e : ℕ) (rows : List ImageRow) (few : k ≤ 6
               long = length-set segs i g ∙ h .long;
               none = z ∙ h .none;
               counted = l;
-              rest = rw add-one (drop-set-lt (suc i) segs i g (omega arith) ∙ zeros-later i (suc i) segs (omega arith) (omega arith) (h .rest));
+              rest =
+                  rw add-one
+                  (drop-set-lt (suc i) segs i g (omega arith) ∙ zeros-later i (suc i) segs (omega arith) (omega arith) (h .rest));
               so-far =
                   rw (add-one, take-suc-set segs i g at, f)
                   (on (Next d) r
-                  ∙ behind-behind (take i segs) (filledOf row d ∷ []) (images area n s e (drop (suc i) (take k rows)) (eqb (row .size) 0) d));
+                  ∙ behind-behind (take i segs) (filledOf row d ∷ [])
+                  (images area n s e (drop (suc i) (take k rows)) (eqb (row .size) 0) d));
             }

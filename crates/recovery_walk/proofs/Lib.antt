@@ -4,6 +4,7 @@ pub mod ImageCases
 pub mod RowWords
 pub mod Count
 pub mod RowIds
+pub mod Segments
 pub mod Depend
 mod ImagesTurn
 mod RowsTurn

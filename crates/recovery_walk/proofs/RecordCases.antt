@@ -1,13 +1,13 @@
 -- The laws of the records of one image: the three ways of a turn, and induction along the walk. Nobody above sees the fuel.
 -- Assumes nothing.
-use mathlib.Core.Path.{_≡_, refl, sym, ap, _∙_}
+use mathlib.Core.Path.{_≡_, refl, sym, _∙_}
 use mathlib.Core.List.{List}
 use mathlib.Core.Bool.{Bool, true, false}
-use Prim.Native.Nat.{ℕ, _-_, _≤_, _<_}
+use Prim.Native.Nat.{ℕ, _-_, _<_}
 use native.Mathlib.Omega.{arith}
 use lib.ListN.{length}
 use Rattle.lists.specs.Choice.{pick}
-use Rattle.lists.specs.Until.{Turn, again, stop, until}
+use Rattle.lists.specs.Until.{Turn, again, stop}
 use Rattle.lists.proofs.Until.{until-again, until-stop, until-keeps}
 use Rattle.recovery_walk.specs.declared.Scan.{Scan}
 use Rattle.recovery_walk.specs.declared.Step.{Step}

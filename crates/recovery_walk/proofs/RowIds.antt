@@ -4,12 +4,11 @@ use mathlib.Core.Path.{_≡_, refl, sym, ap, _∙_}
 use mathlib.Core.List.{List, [], _∷_, _++_, append-nil}
 use mathlib.Core.Bool.{Bool, true, false, _||_, not}
 use Prim.Native.Nat.{ℕ, _+_, _-_, _*_, _≤_, _<_, min}
-use native.Mathlib.Nat.{le-refl}
 use native.Mathlib.Omega.{arith}
 use lib.ListN.{length, getD, length-append, List·getD-append}
 use lib.Seq.{getD-append-seam}
 use lib.Dec.{ltb, leb, eqb}
-use borrow.Author.Tests.{leb-true, leb-false, eqb-true, eqb-false, ltb-false, le-leb, not-true}
+use borrow.Author.Tests.{leb-true, leb-false, eqb-true, ltb-false, le-leb}
 use Rattle.lists.specs.Choice.{pick}
 use Rattle.lists.proofs.Cases.{by-test, by-order}
 use Rattle.seglog.specs.declared.Segment.{Segment}
@@ -17,15 +16,15 @@ use Rattle.recovery_walk.specs.declared.ImageRow.{ImageRow}
 use Rattle.recovery_walk.specs.declared.Scan.{Scan}
 use Rattle.recovery_walk.specs.declared.Step.{Step}
 use Rattle.recovery_walk.specs.declared.Step.the-variants.{Next, Fault}
-use Rattle.recovery_walk.specs.Step.{liveOf, followsOf, moreOf, recordStep, advancedOf}
+use Rattle.recovery_walk.specs.Step.{liveOf, moreOf, recordStep}
 use Rattle.recovery_walk.specs.Images.{Outcome, refused, walked, records, images, imageOf, openedOf, startOf}
 use Rattle.recovery_walk.specs.Rows.{rowOf, Pen, penOf, movedOf, rowsIn, rowsAll, RowIds}
 use Rattle.recovery_walk.specs.Scan.{judged, scanOf}
-use Rattle.recovery_walk.proofs.StepCases.{Follows, follows-is, follows-counts, went}
+use Rattle.recovery_walk.proofs.StepCases.{StepFields, step-fields}
 use Rattle.recovery_walk.proofs.RecordCases.{records-ind}
 use Rattle.recovery_walk.proofs.ImageCases.{first-walked}
 use Rattle.recovery_walk.proofs.RowWords.{rows-end, rows-next, row-live, row-dead}
-use Rattle.recovery_walk.proofs.Count.{penWith, image-counts, walk-counts}
+use Rattle.recovery_walk.proofs.Count.{penWith, image-pen, walk-counts}
 
 -- ---- an accepted scan
 
@@ -36,6 +35,7 @@ pub record Accepted (words : ℕ) (o : Outcome) (c : Scan) (gs : List Segment) :
   pub end : c .end ≡ true
   pub room : 4 * c .live ≤ words
 
+-- an accepted scan tells it
 pub scan-accepted : (words : ℕ) (o : Outcome) (c : Scan) (gs : List Segment) → judged words o ≡ walked c gs → Accepted words o c gs
 unfolding judged
 scan-accepted words (refused m) c gs q = absurd (let y : _≡_ {A = ℕ} 0 1 = cc in omega arith)
@@ -58,7 +58,8 @@ ids-none : (s : ℕ) → RowIds s 0 []
 ids-none s = record { count = refl; id-at = λ i h. absurd (omega arith) }
 
 -- one row more
-ids-more : (s m : ℕ) (ws : List ℕ) (id slot off len : ℕ) → id ≡ s + m → RowIds s m ws → RowIds s (m + 1) (ws ++ (id ∷ slot ∷ off ∷ len ∷ []))
+ids-more : (s m : ℕ) (ws : List ℕ) (id slot off len : ℕ) → id ≡ s + m → RowIds s m ws
+    → RowIds s (m + 1) (ws ++ (id ∷ slot ∷ off ∷ len ∷ []))
 ids-more s m ws id slot off len is h =
     record {
       count = rw length-append (omega (arith, h .count));
@@ -99,22 +100,8 @@ record Sound (s e : ℕ) (c : Scan) (ws : List ℕ) : Type 0 where
   pub none : c .start ≡ false → c .last < s → ws ≡ []
   pub ended : c .end ≡ true → e ≤ c .last
 
--- what the state after a step has to do with the state before it
-record Moved (s e : ℕ) (c d : Scan) : Type 0 where
-  pub last : c .last < d .last
-  pub next : (c .last ≡ 0 → ⊥) → d .last ≡ c .last + 1
-  pub start : d .start ≡ c .start || eqb (d .last) s
-  pub end : d .end ≡ c .end || eqb (d .last) e
-
-moved : (img : List ℕ) (s e : ℕ) (c d : Scan) → recordStep img s e c ≡ Next d → Moved s e c d
-unfolding advancedOf
-moved img s e c d m =
-    let w = went img s e c d m in
-    let f = follows-is (c .last) (w .id) (w .follows) in
-    rw (w .to)
-    (record { last = follows-counts (c .last) (c .last) (w .id) (le-refl (c .last)) (w .follows); next = f .next; start = refl; end = refl })
-
-module _ (s e : ℕ) (some : 0 < s) (c d : Scan) (m : Moved s e c d) (ws : List ℕ) (slot off len : ℕ) (h : Sound s e c ws) where
+module _ (img : List ℕ) (s e : ℕ) (some : 0 < s) (c d : Scan) (m : StepFields img s e c d) (ws : List ℕ)
+    (slot off len : ℕ) (h : Sound s e c ws) where
   abbrev row : List ℕ
   row = rowOf (liveOf s e (d .last)) (d .last) slot off len
 
@@ -123,10 +110,12 @@ module _ (s e : ℕ) (some : 0 < s) (c d : Scan) (m : Moved s e c d) (ws : List 
   longer l r t =
       let range = live-range s e (d .last) t in
       let count : min (d .last) e + 1 - s ≡ d .last - s + 1 = omega (arith, range .1) in
-      rw (count, row-live (liveOf s e (d .last)) (d .last) slot off len t) (ids-more s (d .last - s) ws (d .last) slot off len (omega arith) r)
+      rw (count, row-live (liveOf s e (d .last)) (d .last) slot off len t)
+      (ids-more s (d .last - s) ws (d .last) slot off len (omega arith) r)
 
   -- no row behind e
-  as-long : (k : ℕ) → k ≡ min (d .last) e + 1 - s → RowIds s k ws → liveOf s e (d .last) ≡ false → RowIds s (min (d .last) e + 1 - s) (ws ++ row)
+  as-long : (k : ℕ) → k ≡ min (d .last) e + 1 - s → RowIds s k ws → liveOf s e (d .last) ≡ false
+      → RowIds s (min (d .last) e + 1 - s) (ws ++ row)
   as-long k q r t = rw (row-dead (liveOf s e (d .last)) (d .last) slot off len t, append-nil, ← q) r
 
   -- s was found before
@@ -144,7 +133,7 @@ module _ (s e : ℕ) (some : 0 < s) (c d : Scan) (m : Moved s e c d) (ws : List 
   -- s is found here
   at-start : c .start ≡ false → d .last ≡ s → RowIds s (min (d .last) e + 1 - s) (ws ++ row)
   at-start a is =
-      let empty : ws ≡ [] = h .none a (omega (arith, m .last)) in
+      let empty : ws ≡ [] = h .none a (omega (arith, m .later)) in
       let none : RowIds s 0 ws = rw empty (ids-none s) in
       let zero-before : 0 ≡ d .last - s = omega arith in
       by-test (liveOf s e (d .last)) (λ t. longer (omega arith) (rw zero-before at none) t)
@@ -154,7 +143,7 @@ module _ (s e : ℕ) (some : 0 < s) (c d : Scan) (m : Moved s e c d) (ws : List 
   sound-step : Sound s e d (ws ++ row)
   sound-step =
       record {
-        found = λ t. by-start t (λ a. omega (arith, h .found a, m .last)) (λ a q. omega arith);
+        found = λ t. by-start t (λ a. omega (arith, h .found a, m .later)) (λ a q. omega arith);
         rows = λ t. by-start t after-start at-start;
         none = λ t l. before-start t l;
         ended = λ t. by-end (c .end) (eqb (d .last) e) refl refl (sym (m .end) ∙ t);
@@ -169,7 +158,7 @@ module _ (s e : ℕ) (some : 0 < s) (c d : Scan) (m : Moved s e c d) (ws : List 
           go false false ea eb z = absurd (let y : _≡_ {A = ℕ} 0 1 = cc in omega arith)
 
       by-end : (a b : Bool) → c .end ≡ a → eqb (d .last) e ≡ b → a || b ≡ true → e ≤ d .last
-      by-end true b ea eb z = omega (arith, h .ended ea, m .last)
+      by-end true b ea eb z = omega (arith, h .ended ea, m .later)
       by-end false true ea eb z = omega (arith, eqb-true (d .last) e eb)
       by-end false false ea eb z = absurd (let y : _≡_ {A = ℕ} 0 1 = cc in omega arith)
 
@@ -182,7 +171,7 @@ module _ (s e : ℕ) (some : 0 < s) (c d : Scan) (m : Moved s e c d) (ws : List 
           go : (a : Bool) → c .start ≡ a → a || eqb (d .last) s ≡ false → ws ++ row ≡ []
           go true ea z = absurd (let y : _≡_ {A = ℕ} 0 1 = cc in omega arith)
           go false ea z =
-              rw (row-dead (liveOf s e (d .last)) (d .last) slot off len dead, append-nil) (h .none ea (omega (arith, m .last)))
+              rw (row-dead (liveOf s e (d .last)) (d .last) slot off len dead, append-nil) (h .none ea (omega (arith, m .later)))
 
 -- the records of an image keep it, with the image's rows
 module _ (img : List ℕ) (slot s e : ℕ) (some : 0 < s) where
@@ -193,7 +182,7 @@ module _ (img : List ℕ) (slot s e : ℕ) (some : 0 < s) where
   unfolding movedOf
   sound-next c d a h m ih z q ws k =
       rw (rows-next img slot s e (penWith ws c) d h m)
-      (ih z q _ (sound-step s e some c d (moved img s e c d m) ws slot (d .body) (d .len) k))
+      (ih z q _ (sound-step img s e some c d (step-fields img s e c d m) ws slot (d .body) (d .len) k))
 
   sound-image : (c : Scan) → Keeps c (records img s e c)
   sound-image = records-ind img s e Keeps sound-next fault end
@@ -212,8 +201,7 @@ sound-walk area n s e some [] gap c d hs ws q k = let is : c ≡ d = cc in rw (�
 sound-walk area n s e some (r ∷ rs) gap c d hs ws q k =
     let f = first-walked area n s e r rs gap c d hs q in
     let here : Pen = rowsIn (imageOf area n r) (r .slot) s e (penWith ws (openedOf c)) in
-    let to : here ≡ penWith (here .words) (f .state) =
-    ap (λ (x : Scan). penWith (here .words) x) (image-counts (imageOf area n r) (r .slot) s e (openedOf c) (f .state) ws (f .ended) .same) in
+    let to : here ≡ penWith (here .words) (f .state) = image-pen (imageOf area n r) (r .slot) s e (openedOf c) (f .state) ws (f .ended) in
     let opened : Sound s e (openedOf c) ws = record { found = k .found; rows = k .rows; none = k .none; ended = k .ended } in
     rw to
     (sound-walk area n s e some rs (eqb (r .size) 0) (f .state) d (f .later) (here .words) (f .on)

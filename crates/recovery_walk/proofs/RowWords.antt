@@ -8,10 +8,10 @@ use native.Mathlib.Nat.{le-refl, le-trans, add-zero}
 use native.Mathlib.Numerals.{towards-suc}
 use native.Mathlib.Omega.{arith}
 use lib.ListN.{length, take, drop, set, length-append}
-use lib.Seq.{sets, sets-eq, take-add, take-all}
+use lib.Seq.{sets, sets-eq, take-add}
 use Rattle.lists.specs.Choice.{pick}
 use Rattle.lists.specs.Splice.{splice}
-use Rattle.lists.specs.Until.{Turn, again, stop, until}
+use Rattle.lists.specs.Until.{Turn, again, stop}
 use Rattle.lists.proofs.Until.{until-again, until-stop, until-keeps}
 use Rattle.lists.proofs.Splice.{splice-fits, splice-none, splice-front, splice-inside, splice-behind, splice-length}
 use Rattle.recovery_walk.specs.declared.ImageRow.{ImageRow}
@@ -19,7 +19,7 @@ use Rattle.recovery_walk.specs.declared.Scan.{Scan}
 use Rattle.recovery_walk.specs.declared.Step.{Step}
 use Rattle.recovery_walk.specs.declared.Step.the-variants.{Next, Fault}
 use Rattle.recovery_walk.specs.Step.{liveOf, moreOf, recordStep}
-use Rattle.recovery_walk.specs.Images.{imageOf, openedOf}
+use Rattle.recovery_walk.specs.Images.{imageOf}
 use Rattle.recovery_walk.specs.Rows.{rowOf, Pen, movedOf, penBy, penTurn, rowsIn, rowsAll, RowPut}
 use Rattle.recovery_walk.proofs.StepCases.{step-moves, more-inside}
 
@@ -134,14 +134,16 @@ pub put-none : (t : Bool) (id slot off len : ℕ) (l : List ℕ) (at : ℕ) → 
 put-none t id slot off len l at h =
     rw (row-dead t id slot off len h) (record { next = sym (add-zero at); words = sym (splice-none at l) })
 
--- what a row's write leaves: the index's length, the words before and of the row, and all behind it
 module _ (l : List ℕ) (at : ℕ) (ws m : List ℕ) (r : ℕ) (room : at + length ws ≤ length l) (put : RowPut l at ws m r) where
+  -- a row's write keeps the index's length
   pub put-long : length m ≡ length l
   put-long = ap length (put .words) ∙ splice-length at ws l
 
+  -- it leaves the words before the row, and the row
   pub put-take : take r m ≡ take at l ++ ws
   put-take =
       rw (put .next, put .words) (take-add at (length ws) (splice at ws l) ∙ rw (splice-front at ws l, splice-inside at ws l room) refl)
 
+  -- and all words behind it
   pub put-drop : drop r m ≡ drop r l
   put-drop = ap (drop r) (put .words) ∙ splice-behind at ws l r (omega (arith, put .next))

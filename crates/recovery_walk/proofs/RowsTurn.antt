@@ -1,29 +1,30 @@
 -- A turn of each loop of the second pass, on plain values. The words so far are the index's first `at`.
 -- Assumes nothing.
 use mathlib.Core.Path.{_≡_, refl, sym, ap, _∙_}
-use mathlib.Core.List.{List, [], _∷_, _++_}
+use mathlib.Core.List.{List, _++_}
 use mathlib.Core.Bool.{Bool, true}
 use Prim.Native.Nat.{ℕ, suc, _+_, _-_, _≤_, _<_}
 use native.Mathlib.Numerals.{add-one}
 use native.Mathlib.Omega.{arith}
 use lib.ListN.{length, take, drop, length-take, length-append, take-append-drop, drop-of-length-le}
-use lib.Seq.{drop-cons, drop-drop, getD-take, length-take-le}
+use lib.Seq.{drop-drop, length-take-le}
 use Rattle.recovery_walk.specs.declared.ImageRow.{ImageRow}
 use Rattle.recovery_walk.specs.declared.Scan.{Scan}
 use Rattle.recovery_walk.specs.declared.Step.the-variants.{Next}
 use Rattle.recovery_walk.specs.Step.{liveOf, moreOf, recordStep}
-use Rattle.recovery_walk.specs.Images.{openedOf, rowAt, noRow}
+use Rattle.recovery_walk.specs.Images.{openedOf, rowAt}
 use Rattle.recovery_walk.specs.Rows.{rowOf, Pen, penOf, movedOf, rowsIn, rowsAll, RowPut}
 use Rattle.recovery_walk.proofs.StepCases.{step-counts}
 use Rattle.recovery_walk.proofs.RowWords.{rows-next, rows-grow, all-grow, put-long, put-take, put-drop}
-use Rattle.recovery_walk.proofs.ImagesTurn.{partOf, part-image}
+use Rattle.recovery_walk.proofs.ImagesTurn.{partOf, part-image, rows-from}
 
 -- the words that stand in the index before `at`, and a state
 abbrev pub penAt : List ℕ → ℕ → Scan → Pen
 penAt index at scan = record { words = take at index; scan = scan }
 
 -- what holds at the head of the records' loop
-pub record AtRows (img : List ℕ) (slot s e : ℕ) (index₀ : List ℕ) (at₀ : ℕ) (scan₀ : Scan) (index : List ℕ) (at : ℕ) (scan : Scan) : Type 0 where
+pub record AtRows (img : List ℕ) (slot s e : ℕ) (index₀ : List ℕ) (at₀ : ℕ) (scan₀ : Scan) (index : List ℕ) (at : ℕ) (scan : Scan)
+    : Type 0 where
   pub long : length index ≡ length index₀
   pub upto : at ≤ length index
   pub later : at₀ ≤ at
@@ -44,7 +45,8 @@ pub record AtAll (area : List ℕ) (n k s e : ℕ) (rows : List ImageRow) (index
 pub drop-later : (l m : List ℕ) (a b : ℕ) → a ≤ b → drop a l ≡ drop a m → drop b l ≡ drop b m
 drop-later l m a b h e =
     let j : a + (b - a) ≡ b = omega arith in
-    ap (λ (x : ℕ). drop x l) (sym j) ∙ sym (drop-drop (b - a) a l) ∙ ap (drop (b - a)) e ∙ drop-drop (b - a) a m ∙ ap (λ (x : ℕ). drop x m) j
+    ap (λ (x : ℕ). drop x l) (sym j) ∙ sym (drop-drop (b - a) a l) ∙ ap (drop (b - a)) e ∙ drop-drop (b - a) a m
+    ∙ ap (λ (x : ℕ). drop x m) j
 
 module _ (img : List ℕ) (slot s e : ℕ) (index₀ : List ℕ) (at₀ : ℕ) (scan₀ : Scan) (index : List ℕ) (at : ℕ) (scan : Scan)
     (h : AtRows img slot s e index₀ at₀ scan₀ index at scan) (d : Scan) (going : moreOf scan (length img) ≡ true)
@@ -91,7 +93,9 @@ module _ (area : List ℕ) (n k s e : ℕ) (rows : List ImageRow) (index₀ inde
   rows-done g =
       let same : i ≡ k = omega (arith, h .upto) in
       let is : total ≡ take at index =
-      h .so-far ∙ ap (λ (l : List ImageRow). rowsAll area n s e l (penAt index at scan)) (drop-of-length-le (take k rows) {i = i} (rw length-take (omega arith))) in
+      h .so-far
+      ∙ ap (λ (l : List ImageRow). rowsAll area n s e l (penAt index at scan))
+      (drop-of-length-le (take k rows) {i = i} (rw length-take (omega arith))) in
       let count : at ≡ length total = sym (ap length is ∙ length-take-le at index (h .within)) in
       rw (← count, is) (sym (take-append-drop at index) ∙ ap (λ (l : List ℕ). take at index ++ l) (h .kept))
 
@@ -104,11 +108,12 @@ module _ (area : List ℕ) (n k s e : ℕ) (rows : List ImageRow) (index₀ inde
     turn =
         h .so-far
         ∙ ap (λ (l : List ImageRow). rowsAll area n s e l (penAt index at scan))
-        (drop-cons (take k rows) i noRow (rw length-take (omega arith)) ∙ ap (λ (r : ImageRow). r ∷ drop (suc i) (take k rows)) (getD-take k rows i noRow more))
+        (rows-from rows k i few all more)
         ∙ rw (part-image, is) refl
 
     -- room for all words is room for the image's
-    pub image-room : length total ≤ length index₀ → length (rowsIn (partOf area n row) (row .slot) s e (penAt index at from) .words) ≤ length index
+    pub image-room : length total ≤ length index₀
+        → length (rowsIn (partOf area n row) (row .slot) s e (penAt index at from) .words) ≤ length index
     image-room l =
         omega (
           arith,

@@ -1,10 +1,11 @@
 -- The laws of one record of the walk: the cases of `recordStep`, by the tests that lead to each, and what a step that goes on tells.
 -- Assumes nothing.
 use mathlib.Core.Path.{_≡_, refl, sym, ap, _∙_}
-use mathlib.Core.Bool.{Bool, true, false, not}
+use mathlib.Core.Bool.{Bool, true, false, _||_, not}
 use mathlib.Core.List.{List, [], _∷_}
 use mathlib.Core.Logic.{⊎-elim}
 use Prim.Native.Nat.{ℕ, zero, suc, _+_, _-_, _≤_, _<_}
+use native.Mathlib.Nat.{le-refl}
 use native.Mathlib.Numerals.{add-one, sub-one}
 use native.Mathlib.Omega.{arith}
 use lib.ListN.{length}
@@ -13,6 +14,7 @@ use borrow.Author.Tests.{eq-eqb, ne-eqb, ltb-true, ltb-false, eqb-true, eqb-fals
 use types.Run.{OneOf}
 use denote.Enum.Declared.{tagOf}
 use Rattle.lists.specs.Choice.{pick}
+use Rattle.page.specs.Page.{paddedEnd}
 use Rattle.page.proofs.Page.{pad-ge}
 use Rattle.record.specs.declared.RecordHeader.{RecordHeader}
 use Rattle.record.specs.declared.HeaderAnswer.{HeaderAnswer}
@@ -21,7 +23,6 @@ use Rattle.record.specs.Record.{headerAt, headerNumber}
 use Rattle.record.proofs.Record.{header, Readable, readable}
 use Rattle.record.proofs.HeaderAnswer.{the-type}
 use Rattle.recovery_walk.specs.declared.Scan.{Scan}
-use Rattle.recovery_walk.specs.declared.Step.{Step}
 use Rattle.recovery_walk.specs.declared.Step.the-variants.{Next, Fault}
 use Rattle.recovery_walk.specs.Step.{followsOf, liveOf, cutOf, advancedOf, afterHeader, recordStep, moreOf}
 
@@ -64,6 +65,7 @@ pub record Follows (last id : ℕ) : Type 0 where
   pub some : 0 < id
   pub next : (last ≡ 0 → ⊥) → id ≡ last + 1
 
+-- a test that holds tells it
 pub follows-is : (last id : ℕ) → followsOf last id ≡ true → Follows last id
 unfolding followsOf
 follows-is last id f = go (eqb id 0) (eqb last 0) refl refl f
@@ -161,6 +163,38 @@ went img s e c d m = by (headerAt img (c .pos)) refl m
               to = cc;
             }
 
+-- the fields of the state after a step, by those of the state before it
+pub record StepFields (img : List ℕ) (s e : ℕ) (c d : Scan) : Type 0 where
+  pub len : ℕ
+  pub later : c .last < d .last
+  pub next : (c .last ≡ 0 → ⊥) → d .last ≡ c .last + 1
+  pub least : d .min ≡ pick (eqb (c .min) 0) (d .last) (c .min)
+  pub most : d .max ≡ d .last
+  pub start : d .start ≡ c .start || eqb (d .last) s
+  pub end : d .end ≡ c .end || eqb (d .last) e
+  pub head : d .head ≡ pick (eqb (d .last) e) (paddedEnd 4096 (c .pos + 12 + len)) (c .head)
+  pub fits : c .pos + 12 ≤ length img
+  pub whole : cutOf (length img) (c .pos) s e len (d .last) ≡ false
+
+-- a step that goes on has these fields
+pub step-fields : (img : List ℕ) (s e : ℕ) (c d : Scan) → recordStep img s e c ≡ Next d → StepFields img s e c d
+unfolding advancedOf
+step-fields img s e c d m =
+    let w = went img s e c d m in
+    rw (w .to)
+    (record {
+      len = w .len;
+      later = follows-counts (c .last) (c .last) (w .id) (le-refl (c .last)) (w .follows);
+      next = follows-is (c .last) (w .id) (w .follows) .next;
+      least = refl;
+      most = refl;
+      start = refl;
+      end = refl;
+      head = refl;
+      fits = omega (arith, w .small .room);
+      whole = w .whole;
+    })
+
 -- a step that goes on moves forward
 pub step-moves : (img : List ℕ) (s e : ℕ) (c d : Scan) → recordStep img s e c ≡ Next d → c .pos < d .pos
 unfolding advancedOf
@@ -179,11 +213,12 @@ step-counts img s e c d m h =
     go true l = omega arith
     go false l = omega arith
 
--- a fault of a step is 17, 18, 19 or 20
+-- the numbers of a step's faults
 pub record StepFault (m : ℕ) : Type 0 where
   pub low : 17 ≤ m
   pub high : m ≤ 20
 
+-- a fault of a step is 17, 18, 19 or 20
 pub step-number : (img : List ℕ) (s e : ℕ) (c : Scan) (m : ℕ) → recordStep img s e c ≡ Fault m → StepFault m
 unfolding recordStep afterHeader
 step-number img s e c m t = by (headerAt img (c .pos)) t
@@ -196,7 +231,8 @@ step-number img s e c m t = by (headerAt img (c .pos)) t
     by TooLong t = is 18 (cc) (omega arith) (omega arith)
     by (Header k) t = go (followsOf (c .last) (k .id)) (cutOf (length img) (c .pos) s e (k .length) (k .id)) t
       where
-        go : (a b : Bool) → pick (not a) (Fault 19) (pick b (Fault 20) (Next (advancedOf c s e (k .length) (k .id)))) ≡ Fault m → StepFault m
+        go : (a b : Bool) → pick (not a) (Fault 19) (pick b (Fault 20) (Next (advancedOf c s e (k .length) (k .id)))) ≡ Fault m
+            → StepFault m
         go false b t = is 19 (cc) (omega arith) (omega arith)
         go true true t = is 20 (cc) (omega arith) (omega arith)
         go true false t = absurd (let y : _≡_ {A = ℕ} 0 1 = cc in omega arith)

@@ -9,6 +9,7 @@ use Rattle.recovery_walk.proofs.scan_images.Reads.{Learnt}
 use Rattle.recovery_walk.proofs.scan_images.Kinds as Kinds
 
 -- any two answers and index contents that `scan_images` may leave are the same
-pub scan-images-unique : (κs : Lfts 2) (a : Dens κs Kinds.ps) (r r′ : resT Kinds.r κs .Denot) (e e′ : AtExit (endedOf 2 Kinds.ps Kinds.r) κs)
+pub scan-images-unique : (κs : Lfts 2) (a : Dens κs Kinds.ps) (r r′ : resT Kinds.r κs .Denot)
+    (e e′ : AtExit (endedOf 2 Kinds.ps Kinds.r) κs)
     → Learnt κs a r e → Learnt κs a r′ e′ → (r ≡ r′) × (now (e .1 .1 .1 .1 .1 .1 .0) ≡ now (e′ .1 .1 .1 .1 .1 .1 .0))
 scan-images-unique κs a r r′ e e′ p q = (p .answer ∙ sym (q .answer), p .words ∙ sym (q .words))

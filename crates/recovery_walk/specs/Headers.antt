@@ -20,7 +20,8 @@ pub data EachHeader (P : ℕ → Type 0) (area : List ℕ) (n s e : ℕ) (r : Im
   -- fewer than twelve bytes are left, and none of them is read
   header-short : {c : Scan} → length (imageOf area n r) - c .pos < 12 → EachHeader P area n s e r c
   -- a header, and those after it where the walk goes on
-  header-here : {c : Scan} → P (r .slot * n + c .pos) → ((d : Scan) → recordStep (imageOf area n r) s e c ≡ Next d → EachHeader P area n s e r d)
+  header-here : {c : Scan} → P (r .slot * n + c .pos)
+      → ((d : Scan) → recordStep (imageOf area n r) s e c ≡ Next d → EachHeader P area n s e r d)
       → EachHeader P area n s e r c
 
 -- P holds of the place of each header that the walk of the rows' images reads, from a state on
@@ -28,7 +29,8 @@ pub data EachWalked (P : ℕ → Type 0) (area : List ℕ) (n s e : ℕ) : List 
   -- no image is left
   no-image : {gap : Bool} {c : Scan} → EachWalked P area n s e [] gap c
   -- 16 ends the walk before the image's first header
-  gap-over : {r : ImageRow} {rs : List ImageRow} {gap : Bool} {c : Scan} → gapOf c gap (r .size) ≡ true → EachWalked P area n s e (r ∷ rs) gap c
+  gap-over : {r : ImageRow} {rs : List ImageRow} {gap : Bool} {c : Scan} → gapOf c gap (r .size) ≡ true
+      → EachWalked P area n s e (r ∷ rs) gap c
   -- the headers of an image, and those of the images behind it where the walk goes on
   image-here : {r : ImageRow} {rs : List ImageRow} {gap : Bool} {c : Scan} → EachHeader P area n s e r (openedOf c)
       → ((d : Scan) → records (imageOf area n r) s e (openedOf c) ≡ Next d → EachWalked P area n s e rs (eqb (r .size) 0) d)

@@ -1,7 +1,7 @@
 -- The walk: the records of one image, and the images in the order of their rows. "A header that cannot be read ends the walk of that
 -- image at once, and the first fault ends both the record walk and the image walk." Laws: proofs/. Assumes nothing.
 use mathlib.Core.List.{List, [], _∷_, _++_}
-use mathlib.Core.Bool.{Bool, true, false}
+use mathlib.Core.Bool.{Bool, false}
 use Prim.Native.Nat.{ℕ, _+_, _-_, _*_, _^_, _≤_, _<_}
 use lib.ListN.{length, getD}
 use lib.Dec.{eqb}

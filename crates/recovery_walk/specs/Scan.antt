@@ -2,7 +2,7 @@
 -- Assumes nothing.
 use mathlib.Core.Path.{_≡_}
 use mathlib.Core.List.{List, [], _∷_, _++_}
-use mathlib.Core.Bool.{Bool, true, false, not}
+use mathlib.Core.Bool.{false, not}
 use Prim.Native.Nat.{ℕ, _-_, _*_}
 use lib.ListN.{length, take, drop, replicate}
 use lib.Dec.{ltb, eqb}

@@ -7,7 +7,6 @@ use lib.ListN.{length}
 use lib.Dec.{ltb, leb, eqb}
 use Rattle.lists.specs.Choice.{pick, _⇒_, first}
 use Rattle.page.specs.Page.{paddedEnd}
-use Rattle.record.specs.declared.RecordHeader.{RecordHeader}
 use Rattle.record.specs.declared.HeaderAnswer.{HeaderAnswer}
 use Rattle.record.specs.declared.HeaderAnswer.the-variants.{Header, Short, TooLong}
 use Rattle.record.specs.Record.{headerAt, headerNumber}

@@ -75,7 +75,9 @@ fn advance(state: Scan, s: u64, e: u64, header: RecordHeader) -> Scan
 {
     let len = header.length as u64;
     let id = header.id;
-    let next = page::reader_next_pos((state.pos + 12 + len) as u32);
+    let body = state.pos + 12;
+    let end = body + len;
+    let next = page::reader_next_pos(end as u32);
     let live = is_live(s, e, id);
     let fresh = same(state.min, 0);
     let is_s = same(id, s);
@@ -85,7 +87,7 @@ fn advance(state: Scan, s: u64, e: u64, header: RecordHeader) -> Scan
         last: id,
         min: choose(fresh, id, state.min),
         max: id,
-        body: state.pos + 12,
+        body: body,
         len: len,
         live: choose(live, state.live + 1, state.live),
         start: state.start | is_s,

@@ -56,8 +56,8 @@ returns-3 c =
     let e2 = c .before .before .before in
     let wk = walk-2 e2 in
     let a = wk .before .before .before .args in
-    scan-no-end (a .area .now) (a .c) (a .s) (a .e) (a .count) (a .rows) (a .index .now) _ (wk .walk .ensures) (e2 .before .before .if1 .left)
-    (start-at e2) (not-true _ (c .before .if3 .taken)) _ (c .refusal2 .ensures)
+    scan-no-end (a .area .now) (a .c) (a .s) (a .e) (a .count) (a .rows) (a .index .now) _ (wk .walk .ensures)
+    (e2 .before .before .if1 .left) (start-at e2) (not-true _ (c .before .if3 .taken)) _ (c .refusal2 .ensures)
 
 refusal-requires-3 : tie.Need-refusal-requires-3
 refusal-requires-3 c κs = search needs
@@ -68,8 +68,8 @@ returns-4 c =
     let e2 = e3 .before .before in
     let wk = walk-3 e3 in
     let a = wk .before .before .before .args in
-    scan-few-words (a .area .now) (a .c) (a .s) (a .e) (a .count) (a .rows) (a .index .now) _ (wk .walk .ensures) (e2 .before .before .if1 .left)
-    (start-at e2) (end-at e3) (c .before .if4 .taken) _ (c .refusal3 .ensures)
+    scan-few-words (a .area .now) (a .c) (a .s) (a .e) (a .count) (a .rows) (a .index .now) _ (wk .walk .ensures)
+    (e2 .before .before .if1 .left) (start-at e2) (end-at e3) (c .before .if4 .taken) _ (c .refusal3 .ensures)
 
 write-rows-requires : tie.Need-write-rows-requires
 write-rows-requires c κs =
@@ -77,8 +77,11 @@ write-rows-requires c κs =
     let e1 = e4 .before .before .before .before .before .before in
     let wk = walk-4 e4 in
     let st = wk .before .before .before in
-    let a = st .args in
-    (st .pre, scan-room (a .area .now) (a .c) (a .s) (a .e) (a .count) (a .rows) (a .index .now) _ (wk .walk .ensures) (e1 .if1 .left) (e4 .if4 .left))
+    let a = st .args in (
+      st .pre,
+      scan-room (a .area .now) (a .c) (a .s) (a .e) (a .count) (a .rows) (a .index .now) _ (wk .walk .ensures) (e1 .if1 .left)
+          (e4 .if4 .left),
+    )
 
 same-length : tie.Need-same-length
 same-length c = search needs

@@ -2,7 +2,7 @@
 -- Assumes nothing.
 use borrow.Author.Needs.{needs}
 use native.Mathlib.Omega.{arith}
-use mathlib.Core.Path.{_≡_, refl, sym, ap, _∙_}
+use mathlib.Core.Path.{_≡_, refl, sym, _∙_}
 use mathlib.Core.Logic.{⊎-elim}
 use mathlib.Core.List.{List}
 use mathlib.Core.Bool.{true}
@@ -21,7 +21,8 @@ use Rattle.recovery_walk.proofs.rows.write_rows.Statement.{statement}
 use Rattle.recovery_walk.proofs.rows.write_rows.Tie as tie
 
 abbrev Inv-records : tie.InvT-records
-Inv-records area c count s e index₀ rows at₀ scan₀ i row size from img index at scan = AtRows img (row .slot) s e index₀ at₀ scan₀ index at scan
+Inv-records area c count s e index₀ rows at₀ scan₀ i row size from img index at scan =
+    AtRows img (row .slot) s e index₀ at₀ scan₀ index at scan
 
 abbrev μ-records : tie.MeasureT-records
 μ-records area c count s e index₀ rows at₀ scan₀ i row size from img index at scan = length img - scan .pos
@@ -72,7 +73,9 @@ length-at : (st : Start) → length (st .args .t4) ≡ 64
 length-at st = search needs
 
 -- the image lies in the area, is as long as its row says, and no longer than a slot may be
-within-at : (ar : Row) → let im = ar .before .before .before in row-of im .slot * start-of im .args .c + row-of im .size ≤ length (start-of im .args .area .now)
+within-at : (ar : Row)
+    → let im = ar .before .before .before in
+    row-of im .slot * start-of im .args .c + row-of im .size ≤ length (start-of im .args .area .now)
 within-at ar = let im = ar .before .before .before in start-of im .pre .0 .within (im .images .i) (ar .before .before .images-test .taken)
 
 len-at : (op : Opened) → length (img-of op) ≡ row-of (images-of op) .size

@@ -8,11 +8,11 @@ use Rattle.recovery_walk.proofs.steps.advance.Tie as tie
 cast-len : tie.Need-cast-len
 cast-len c = search needs
 
-add-reader-next-pos : tie.Need-add-reader-next-pos
-add-reader-next-pos c = search needs
+add-body : tie.Need-add-body
+add-body c = search needs
 
-add-reader-next-pos-2 : tie.Need-add-reader-next-pos-2
-add-reader-next-pos-2 c = search needs
+add-end : tie.Need-add-end
+add-end c = search needs
 
 cast-reader-next-pos : tie.Need-cast-reader-next-pos
 cast-reader-next-pos c = search needs
@@ -35,9 +35,6 @@ same-requires-3 c κs = search needs
 choose-requires : tie.Need-choose-requires
 choose-requires c κs = search needs
 
-add-t13 : tie.Need-add-t13
-add-t13 c = search needs
-
 add-choose : tie.Need-add-choose
 add-choose c = search needs
 
@@ -56,8 +53,8 @@ advance-spec =
     tie.close
     (tie.spec
     cast-len
-    add-reader-next-pos
-    add-reader-next-pos-2
+    add-body
+    add-end
     cast-reader-next-pos
     reader-next-pos-requires
     is-live-requires
@@ -65,7 +62,6 @@ advance-spec =
     same-requires-2
     same-requires-3
     choose-requires
-    add-t13
     add-choose
     choose-requires-2
     choose-requires-3

@@ -8,8 +8,6 @@ use native.Mathlib.Omega.{arith}
 use borrow.Author.Needs.{needs}
 use borrow.Author.Tests.{not-true, not-false}
 use Rattle.record.specs.declared.RecordHeader.{RecordHeader}
-use Rattle.record.specs.declared.HeaderAnswer.the-variants.{Header}
-use Rattle.record.specs.Record.{headerAt}
 use Rattle.record.proofs.Record.{Readable}
 use Rattle.recovery_walk.specs.declared.Scan.{Scan}
 use Rattle.recovery_walk.specs.declared.Step.the-variants.{Next}
@@ -32,7 +30,8 @@ abbrev header-of : tie.After-known-told → RecordHeader
 header-of kt = kt .before .answer .given .0 .0
 
 -- the header is one, its length is small, and its id is a number of 64 bits
-fits-at : (kt : tie.After-known-told) → let rh = read-of kt in Readable (img-of rh) (state-of rh .pos) (header-of kt .length) (header-of kt .id)
+fits-at : (kt : tie.After-known-told)
+    → let rh = read-of kt in Readable (img-of rh) (state-of rh .pos) (header-of kt .length) (header-of kt .id)
 fits-at kt =
     let rh = read-of kt in
     let a = rh .before .before .args in
@@ -81,8 +80,8 @@ returns-3 c =
     let kt = e1 .before .before in
     let rh = read-of kt in
     let a = rh .before .before .args in
-    step-cut (img-of rh) (a .s) (a .e) (state-of rh) _ (rh .read-header .ensures) (header-of kt) (kt .before .answer .given .1) (follows-at e1)
-    (sym (c .before .cut-short .ensures) ∙ c .if2 .taken)
+    step-cut (img-of rh) (a .s) (a .e) (state-of rh) _ (rh .read-header .ensures) (header-of kt) (kt .before .answer .given .1)
+    (follows-at e1) (sym (c .before .cut-short .ensures) ∙ c .if2 .taken)
 
 advance-requires : tie.Need-advance-requires
 advance-requires c κs =

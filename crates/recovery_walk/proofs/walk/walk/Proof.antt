@@ -15,7 +15,8 @@ use Rattle.recovery_walk.specs.Images.{images, startOf, rowAt, refused, 
 use Rattle.recovery_walk.specs.Scan.{scannedOf, settledOf}
 use Rattle.recovery_walk.proofs.StepCases.{more-inside, step-moves, step-counts, step-number}
 use Rattle.recovery_walk.proofs.RecordCases.{records-next, records-end, records-fault}
-use Rattle.recovery_walk.proofs.ImagesTurn.{AtImages, AtRecords, partOf, part-size, at-first, settled-bad, settled-good, turn-gapped, turn-fault, turn-next}
+use Rattle.recovery_walk.proofs.ImagesTurn.{AtImages, AtRecords, partOf, part-size, at-first, settled-bad, settled-good}
+use Rattle.recovery_walk.proofs.ImagesTurn.{turn-gapped, turn-fault, turn-next}
 use Rattle.recovery_walk.proofs.walk.walk.Statement.{statement}
 use Rattle.recovery_walk.proofs.walk.walk.Tie as tie
 
@@ -74,7 +75,9 @@ length-at : (st : Start) → length (st .args .t4) ≡ 64
 length-at st = search needs
 
 -- the image lies in the area, is as long as its row says, and no longer than a slot may be
-within-at : (sk : Known) → let im = in-of sk .before in row-of im .slot * start-of im .args .c + row-of im .size ≤ length (start-of im .args .area .now)
+within-at : (sk : Known)
+    → let im = in-of sk .before in
+    row-of im .slot * start-of im .args .c + row-of im .size ≤ length (start-of im .args .area .now)
 within-at sk = let im = in-of sk .before in start-of im .pre .within (im .images .i) (in-of sk .images-test .taken)
 
 len-at : (op : Opened) → length (img-of op) ≡ row-of (images-of op) .size
