@@ -33,7 +33,8 @@ not-over : {B : Type 0} (n : ℕ) → OverLimit ≡ Consumed n → B
 not-over n e = absurd (let z : _≡_ {A = ℕ} 0 1 = cc in omega arith)
 
 -- a group that is read to an accepted end at n begins before n, and where two inputs give the same rows up to n, they give the same reading
-group-kept : (at at' : ℕ → Got) (n : ℕ) → ((p : ℕ) (r : Row) (q : ℕ) → at p ≡ got r q → p ≤ q) → ((p : ℕ) (r : Row) (q : ℕ) → at p ≡ got r q → q ≤ n → at' p ≡ got r q)
+group-kept : (at at' : ℕ → Got) (n : ℕ) → ((p : ℕ) (r : Row) (q : ℕ) → at p ≡ got r q → p ≤ q)
+    → ((p : ℕ) (r : Row) (q : ℕ) → at p ≡ got r q → q ≤ n → at' p ≡ got r q)
     → (k p : ℕ) (next next' : ℕ → Reading) → ((p : ℕ) → endOf (next p) ≡ Consumed n → (p ≤ n) × (next p ≡ next' p))
     → endOf (group at k p next) ≡ Consumed n → (p ≤ n) × (group at k p next ≡ group at' k p next')
 unfolding group
@@ -51,13 +52,15 @@ group-kept at at' n up kept (suc k) p next next' f e = go (at p) refl e (λ q. g
         (omega arith, rw (kept p r q h l) (ap (row r) (i .1)))
 
 -- a group that begins inside is read inside
-group-inside : (at : ℕ → Got) (size n : ℕ) → ((p : ℕ) (r : Row) (q : ℕ) → at p ≡ got r q → q ≤ size) → (k p : ℕ) (next : ℕ → Reading) → p ≤ size
+group-inside : (at : ℕ → Got) (size n : ℕ) → ((p : ℕ) (r : Row) (q : ℕ) → at p ≡ got r q → q ≤ size) → (k p : ℕ) (next : ℕ → Reading)
+    → p ≤ size
     → ((p : ℕ) → p ≤ size → endOf (next p) ≡ Consumed n → n ≤ size) → endOf (group at k p next) ≡ Consumed n → n ≤ size
 unfolding group
 group-inside at size n g zero p next h f e = f p h e
 group-inside at size n g (suc k) p next h f e = go (at p) refl e (λ q l. group-inside at size n g k q next l f)
   where
-    go : (x : Got) → at p ≡ x → endOf (entered x (λ q. group at k q next)) ≡ Consumed n → ((q : ℕ) → q ≤ size → endOf (group at k q next) ≡ Consumed n → n ≤ size) → n ≤ size
+    go : (x : Got) → at p ≡ x → endOf (entered x (λ q. group at k q next)) ≡ Consumed n
+        → ((q : ℕ) → q ≤ size → endOf (group at k q next) ≡ Consumed n → n ≤ size) → n ≤ size
     go short y e ih = not-early n e
     go (got r q) y e ih = ih q (g p r q y) e
 
@@ -69,23 +72,29 @@ consumed-inside most s n e = first (u32At s 0) refl e
     last : (p : ℕ) → p ≤ length s → endOf (ends (Consumed p)) ≡ Consumed n → n ≤ length s
     last p h e = let q : p ≡ n = cc in omega arith
 
-    inner : (k p m : ℕ) (b : Bool) → p + 4 ≤ length s → endOf (pick b (ends OverLimit) (group (reinstateAt s) m (p + 4) (λ q. ends (Consumed q)))) ≡ Consumed n → n ≤ length s
+    inner : (k p m : ℕ) (b : Bool) → p + 4 ≤ length s → endOf
+        (pick b (ends OverLimit) (group (reinstateAt s) m (p + 4) (λ q. ends (Consumed q)))) ≡ Consumed n → n ≤ length s
     inner k p m true h e = not-over n e
     inner k p m false h e =
-        group-inside (reinstateAt s) (length s) n (λ p r q y. let g = reinstate-is s p r q y in let a = g .0 in let b = g .2 in omega arith) m (p + 4) (λ q. ends (Consumed q)) h last e
+        group-inside (reinstateAt s) (length s) n (λ p r q y. let g = reinstate-is s p r q y in let a = g .0 in let b = g .2 in omega
+        arith) m (p + 4) (λ q. ends (Consumed q)) h last e
 
     second : (k p : ℕ) (w : U32At) → w ≡ u32At s p
-        → endOf (counted w (λ m. pick (ltb most (k + m)) (ends OverLimit) (group (reinstateAt s) m (p + 4) (λ q. ends (Consumed q))))) ≡ Consumed n → n ≤ length s
+        → endOf (counted w (λ m. pick (ltb most (k + m)) (ends OverLimit) (group (reinstateAt s) m (p + 4) (λ q. ends (Consumed q)))))
+        ≡ Consumed n → n ≤ length s
     second k p Short q e = not-early n e
     second k p (Value m) q e = inner k p m (ltb most (k + m)) (u32-inside s p (Value m) m q refl) e
 
-    outer : (k : ℕ) (b : Bool) → 0 + 4 ≤ length s → endOf (pick b (ends OverLimit) (group (eraseAt s) k 4 (λ p. reinstates most s k p))) ≡ Consumed n → n ≤ length s
+    outer : (k : ℕ) (b : Bool) → 0 + 4 ≤ length s → endOf (pick b (ends OverLimit) (group (eraseAt s) k 4 (λ p. reinstates most s k p)))
+        ≡ Consumed n → n ≤ length s
     outer k true h e = not-over n e
     outer k false h e =
         group-inside (eraseAt s) (length s) n (λ p r q y. let g = erase-is s p r q y in let a = g .0 in let b = g .2 in omega arith) k 4
         (λ p. reinstates most s k p) (omega arith) (λ p l z. second k p (u32At s p) refl z) e
 
-    first : (w : U32At) → w ≡ u32At s 0 → endOf (counted w (λ k. pick (ltb most k) (ends OverLimit) (group (eraseAt s) k 4 (λ p. reinstates most s k p)))) ≡ Consumed n → n ≤ length s
+    first : (w : U32At) → w ≡ u32At s 0
+        → endOf (counted w (λ k. pick (ltb most k) (ends OverLimit) (group (eraseAt s) k 4 (λ p. reinstates most s k p)))) ≡ Consumed n
+        → n ≤ length s
     first Short q e = not-early n e
     first (Value k) q e = outer k (ltb most k) (u32-inside s 0 (Value k) k q refl) e
 
@@ -116,7 +125,12 @@ module _ (s s' : List ℕ) (n : ℕ) (agree : take n s ≡ take n s') (l : n ≤
   reinstate-kept p r q e h =
       let g = reinstate-is s p r q e in
       let b = g .2 in
-      rw (← same-number (p + 32) (omega arith), le-leb (p + (36 + leAt 4 s (p + 32))) (length s') (omega arith), ← same-part p 32 (omega arith))
+      rw (
+        ← same-number (p + 32) (omega arith),
+        le-leb (p + (36 + leAt 4 s (p + 32))) (length s') (omega arith),
+        ← same-part p 32
+            (omega arith),
+      )
       (λ i. got (g .1 i) (b i))
 
   reinstates-kept : (most k p : ℕ) → endOf (reinstates most s k p) ≡ Consumed n → (p ≤ n) × (reinstates most s k p ≡ reinstates most s' k p)
@@ -131,14 +145,17 @@ module _ (s s' : List ℕ) (n : ℕ) (agree : take n s ≡ take n s') (l : n ≤
           → (p ≤ n) × (pick b (ends OverLimit) (group (reinstateAt s) m (p + 4) (λ q. ends (Consumed q))) ≡ reinstates most s' k p)
       inner m true w t e = not-over n e
       inner m false w t e =
-          let g = group-kept (reinstateAt s) (reinstateAt s') n (λ p r q y. let z = reinstate-is s p r q y .2 in omega arith) reinstate-kept m (p + 4)
+          let g = group-kept (reinstateAt s) (reinstateAt s') n
+          (λ p r q y. let z = reinstate-is s p r q y .2 in omega arith) reinstate-kept m (p + 4)
           (λ q. ends (Consumed q)) (λ q. ends (Consumed q)) behind e in
           let h = g .0 in
           (omega arith, rw (sym (same-count p h) ∙ sym w, t) (g .1))
 
       second : (w : U32At) → w ≡ u32At s p
-          → endOf (counted w (λ m. pick (ltb most (k + m)) (ends OverLimit) (group (reinstateAt s) m (p + 4) (λ q. ends (Consumed q))))) ≡ Consumed n
-          → (p ≤ n) × (counted w (λ m. pick (ltb most (k + m)) (ends OverLimit) (group (reinstateAt s) m (p + 4) (λ q. ends (Consumed q)))) ≡ reinstates most s' k p)
+          → endOf (counted w (λ m. pick (ltb most (k + m)) (ends OverLimit) (group (reinstateAt s) m (p + 4) (λ q. ends (Consumed q)))))
+          ≡ Consumed n
+          → (p ≤ n) × (counted w (λ m. pick (ltb most (k + m)) (ends OverLimit) (group (reinstateAt s) m (p + 4) (λ q. ends (Consumed q))))
+          ≡ reinstates most s' k p)
       second Short q e = not-early n e
       second (Value m) q e = inner m (ltb most (k + m)) q refl e
 
@@ -146,7 +163,8 @@ module _ (s s' : List ℕ) (n : ℕ) (agree : take n s ≡ take n s') (l : n ≤
   unfolding reading
   reading-kept most e = first (u32At s 0) refl e
     where
-      inner : (k : ℕ) (b : Bool) → Value k ≡ u32At s 0 → ltb most k ≡ b → endOf (pick b (ends OverLimit) (group (eraseAt s) k 4 (λ p. reinstates most s k p))) ≡ Consumed n
+      inner : (k : ℕ) (b : Bool) → Value k ≡ u32At s 0 → ltb most k ≡ b
+          → endOf (pick b (ends OverLimit) (group (eraseAt s) k 4 (λ p. reinstates most s k p))) ≡ Consumed n
           → pick b (ends OverLimit) (group (eraseAt s) k 4 (λ p. reinstates most s k p)) ≡ reading most s'
       inner k true w t e = not-over n e
       inner k false w t e =
@@ -155,13 +173,15 @@ module _ (s s' : List ℕ) (n : ℕ) (agree : take n s ≡ take n s') (l : n ≤
           let h = g .0 in
           rw (sym (same-count 0 h) ∙ sym w, t) (g .1)
 
-      first : (w : U32At) → w ≡ u32At s 0 → endOf (counted w (λ k. pick (ltb most k) (ends OverLimit) (group (eraseAt s) k 4 (λ p. reinstates most s k p)))) ≡ Consumed n
+      first : (w : U32At) → w ≡ u32At s 0
+          → endOf (counted w (λ k. pick (ltb most k) (ends OverLimit) (group (eraseAt s) k 4 (λ p. reinstates most s k p)))) ≡ Consumed n
           → counted w (λ k. pick (ltb most k) (ends OverLimit) (group (eraseAt s) k 4 (λ p. reinstates most s k p))) ≡ reading most s'
       first Short q e = not-early n e
       first (Value k) q e = inner k (ltb most k) q refl e
 
 -- decoding that consumed n bytes depends on them alone: any input that begins with them decodes to the same
-pub decode-depends : (most : ℕ) (s s' : List ℕ) (n : ℕ) → decodedOf most s .answer ≡ Consumed n → take n s ≡ take n s' → decodedOf most s' ≡ decodedOf most s
+pub decode-depends : (most : ℕ) (s s' : List ℕ) (n : ℕ) → decodedOf most s .answer ≡ Consumed n → take n s ≡ take n s'
+    → decodedOf most s' ≡ decodedOf most s
 decode-depends most s s' n e agree =
     let g = accepted-good most s n e in
     let l = consumed-inside most s n (g .end) in
@@ -171,7 +191,8 @@ decode-depends most s s' n e agree =
     ap (λ (w : Reading). answered (walk [] w .0) (walk [] w .1)) (sym (reading-kept s s' n agree l (omega arith) most (g .end)))
 
 -- in particular what follows them is not read
-pub decode-prefix : (most : ℕ) (s rest : List ℕ) (n : ℕ) → decodedOf most s .answer ≡ Consumed n → decodedOf most (take n s ++ rest) ≡ decodedOf most s
+pub decode-prefix : (most : ℕ) (s rest : List ℕ) (n : ℕ) → decodedOf most s .answer ≡ Consumed n
+    → decodedOf most (take n s ++ rest) ≡ decodedOf most s
 decode-prefix most s rest n e =
     let g = accepted-good most s n e in
     let l = consumed-inside most s n (g .end) in

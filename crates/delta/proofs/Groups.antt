@@ -37,7 +37,11 @@ module _ (at : ℕ → Got) (before : List Row) (n start : ℕ) where
   pub grouping-start : (u : Table) → Plain u → before ≡ rowsOf u → Grouping at before n start 0 start u
   grouping-start u p e =
       let z : n ≡ n - 0 = omega arith in
-      record { plain = p; same = λ next. ap (λ (rs : List Row). prepend rs (group at n start next)) e ∙ ap (λ (k : ℕ). prepend (rowsOf u) (group at k start next)) z }
+      record {
+        plain = p;
+        same = λ next. ap (λ (rs : List Row). prepend rs (group at n start next)) e
+            ∙ ap (λ (k : ℕ). prepend (rowsOf u) (group at k start next)) z;
+      }
 
   module _ (i p : ℕ) (u : Table) (g : Grouping at before n start i p u) where
     -- the row at p is whole
@@ -45,7 +49,12 @@ module _ (at : ℕ → Got) (before : List Row) (n start : ℕ) where
         → Grouping at before n start (i + 1) q (record { rows = set (u .rows) c r; count = c + 1 })
     grouping-turn r q c h e k l =
         let b = store-behind u r c (g .plain) k l in
-        record { plain = b .plain; same = λ next. g .same next ∙ step next ∙ sym (ap (λ (rs : List Row). prepend rs (group at (n - (i + 1)) q next)) (b .rows) ∙ prepend-append (rowsOf u) (r ∷ []) (group at (n - (i + 1)) q next)) }
+        record {
+          plain = b .plain;
+          same = λ next. g .same next ∙ step next
+              ∙ sym (ap (λ (rs : List Row). prepend rs (group at (n - (i + 1)) q next)) (b .rows)
+              ∙ prepend-append (rowsOf u) (r ∷ []) (group at (n - (i + 1)) q next));
+        }
       where
         one : (next : ℕ → Reading) → group at (n - i) p next ≡ prepend (r ∷ []) (group at (n - (i + 1)) q next)
         one next = front next (n - i) (n - (i + 1)) (omega arith)
@@ -53,11 +62,13 @@ module _ (at : ℕ → Got) (before : List Row) (n start : ℕ) where
             front : (next : ℕ → Reading) (a b : ℕ) → a ≡ suc b → group at a p next ≡ prepend (r ∷ []) (group at b q next)
             front next a b f = ap (λ (k : ℕ). group at k p next) f ∙ (unfold group prepend in rw e)
 
-        step : (next : ℕ → Reading) → prepend (rowsOf u) (group at (n - i) p next) ≡ prepend (rowsOf u) (prepend (r ∷ []) (group at (n - (i + 1)) q next))
+        step : (next : ℕ → Reading) → prepend (rowsOf u) (group at (n - i) p next)
+            ≡ prepend (rowsOf u) (prepend (r ∷ []) (group at (n - (i + 1)) q next))
         step next = ap (prepend (rowsOf u)) (one next)
 
     -- the row at p is not whole
-    pub grouping-short : i < n → at p ≡ short → (next : ℕ → Reading) → prepend before (group at n start next) ≡ prepend (rowsOf u) (ends EndsEarly)
+    pub grouping-short : i < n → at p ≡ short → (next : ℕ → Reading)
+        → prepend before (group at n start next) ≡ prepend (rowsOf u) (ends EndsEarly)
     unfolding group
     grouping-short h e next =
         let f : n - i ≡ suc (n - (i + 1)) = omega arith in
@@ -105,7 +116,8 @@ module _ (s : List ℕ) (p : ℕ) where
     unfolding reinstateAt
     reinstate-cut h = rw (is, lt-leb (p + (36 + n)) (length s) (omega arith))
 
-    pub reinstate-got : p + 36 + n ≤ length s → (key : List ℕ) → key ≡ part p 32 s → reinstateAt s p ≡ got (reinstated key (p + 36) n) (p + 36 + n)
+    pub reinstate-got : p + 36 + n ≤ length s → (key : List ℕ) → key ≡ part p 32 s
+        → reinstateAt s p ≡ got (reinstated key (p + 36) n) (p + 36 + n)
     unfolding reinstateAt
     reinstate-got h key k =
         let q : p + (36 + n) ≡ p + 36 + n = omega arith in

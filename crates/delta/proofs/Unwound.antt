@@ -63,7 +63,8 @@ accepted-good most s n e =
     no : {B : Type 0} (f : Decoding) → f ≡ Consumed n → (f ≡ Consumed n → _≡_ {A = ℕ} 0 1) → B
     no f q z = let o = z q in absurd (omega arith)
 
-    go : (b : Bool) → clash rowKey xs ≡ b → (f : Decoding) → endOf (reading most s) ≡ f → pick b (refusedOf Duplicate) (answered f xs) .answer ≡ Consumed n → Good most s n
+    go : (b : Bool) → clash rowKey xs ≡ b → (f : Decoding) → endOf (reading most s) ≡ f
+        → pick b (refusedOf Duplicate) (answered f xs) .answer ≡ Consumed n → Good most s n
     go true c f g q = no Duplicate q (λ z. cc)
     go false c (Consumed m) g q =
         let same : Consumed m ≡ Consumed n = q in
@@ -78,7 +79,8 @@ module _ (s : List ℕ) (p : ℕ) where
   unfolding eraseAt
   erase-is r q e = go (standAt 32 s p) refl e
     where
-      go : (b : Bool) → standAt 32 s p ≡ b → pick b (got (erased (part p 32 s)) (p + 32)) short ≡ got r q → (p + 32 ≤ length s) × (erased (part p 32 s) ≡ r) × (p + 32 ≡ q)
+      go : (b : Bool) → standAt 32 s p ≡ b → pick b (got (erased (part p 32 s)) (p + 32)) short ≡ got r q
+          → (p + 32 ≤ length s) × (erased (part p 32 s) ≡ r) × (p + 32 ≡ q)
       go true h e = (leb-true (p + 32) (length s) h, cc, cc)
       go false h e = absurd (let z : _≡_ {A = ℕ} 0 1 = cc in omega arith)
 
@@ -90,7 +92,8 @@ module _ (s : List ℕ) (p : ℕ) where
   unfolding reinstateAt
   reinstate-is r q e = go (standAt (36 + size) s p) refl e
     where
-      go : (b : Bool) → standAt (36 + size) s p ≡ b → pick b (got (reinstated (part p 32 s) (p + 36) size) (p + (36 + size))) short ≡ got r q
+      go : (b : Bool) → standAt (36 + size) s p ≡ b → pick b (got (reinstated (part p 32 s) (p + 36) size) (p + (36 + size))) short
+          ≡ got r q
           → (p + (36 + size) ≤ length s) × (reinstated (part p 32 s) (p + 36) size ≡ r) × (p + (36 + size) ≡ q)
       go true h e = (leb-true (p + (36 + size)) (length s) h, cc, cc)
       go false h e = absurd (let z : _≡_ {A = ℕ} 0 1 = cc in omega arith)
@@ -116,7 +119,9 @@ every-read P most s f g = first (u32At s 0)
     inner n p m true = tt
     inner n p m false = every-group P (reinstateAt s) g m (p + 4) (λ q. ends (Consumed q)) (λ q. tt)
 
-    second : (n p : ℕ) (w : U32At) → Every P (rowsIn (counted w (λ m. pick (ltb most (n + m)) (ends OverLimit) (group (reinstateAt s) m (p + 4) (λ q. ends (Consumed q))))))
+    second : (n p : ℕ) (w : U32At)
+        → Every P (rowsIn (counted w (λ m. pick (ltb most (n + m)) (ends OverLimit)
+        (group (reinstateAt s) m (p + 4) (λ q. ends (Consumed q))))))
     second n p Short = tt
     second n p (Value m) = inner n p m (ltb most (n + m))
 
@@ -124,17 +129,20 @@ every-read P most s f g = first (u32At s 0)
     outer n true = tt
     outer n false = every-group P (eraseAt s) f n 4 (λ p. reinstates most s n p) (λ p. second n p (u32At s p))
 
-    first : (w : U32At) → Every P (rowsIn (counted w (λ n. pick (ltb most n) (ends OverLimit) (group (eraseAt s) n 4 (λ p. reinstates most s n p)))))
+    first : (w : U32At) → Every P
+        (rowsIn (counted w (λ n. pick (ltb most n) (ends OverLimit) (group (eraseAt s) n 4 (λ p. reinstates most s n p)))))
     first Short = tt
     first (Value n) = outer n (ltb most n)
 
 -- how many rows a group gives
-count-group : (at : ℕ → Got) (n p : ℕ) (next : ℕ → Reading) (k : ℕ) → ((p : ℕ) → length (rowsIn (next p)) ≤ k) → length (rowsIn (group at n p next)) ≤ n + k
+count-group : (at : ℕ → Got) (n p : ℕ) (next : ℕ → Reading) (k : ℕ) → ((p : ℕ) → length (rowsIn (next p)) ≤ k)
+    → length (rowsIn (group at n p next)) ≤ n + k
 unfolding group
 count-group at zero p next k h = omega (arith, h p)
 count-group at (suc n) p next k h = go (at p) (λ q. count-group at n q next k h)
   where
-    go : (x : Got) → ((q : ℕ) → length (rowsIn (group at n q next)) ≤ n + k) → length (rowsIn (entered x (λ q. group at n q next))) ≤ suc n + k
+    go : (x : Got) → ((q : ℕ) → length (rowsIn (group at n q next)) ≤ n + k)
+        → length (rowsIn (entered x (λ q. group at n q next))) ≤ suc n + k
     go short ih = omega arith
     go (got r q) ih = omega (arith, ih q)
 
@@ -146,20 +154,28 @@ count-read most s = first (u32At s 0)
     inner : (n p m : ℕ) (b : Bool) → ltb most (n + m) ≡ b → n ≤ most
         → length (rowsIn (pick b (ends OverLimit) (group (reinstateAt s) m (p + 4) (λ q. ends (Consumed q))))) ≤ most - n
     inner n p m true h l = omega arith
-    inner n p m false h l = omega (arith, count-group (reinstateAt s) m (p + 4) (λ q. ends (Consumed q)) 0 (λ q. omega arith), ltb-false most (n + m) h)
+    inner n p m false h l = omega (
+      arith,
+      count-group (reinstateAt s) m (p + 4) (λ q. ends (Consumed q)) 0
+          (λ q. omega arith),
+      ltb-false most (n + m) h,
+    )
 
     second : (n p : ℕ) (w : U32At) → n ≤ most
-        → length (rowsIn (counted w (λ m. pick (ltb most (n + m)) (ends OverLimit) (group (reinstateAt s) m (p + 4) (λ q. ends (Consumed q)))))) ≤ most - n
+        → length (rowsIn (counted w (λ m. pick (ltb most (n + m)) (ends OverLimit)
+        (group (reinstateAt s) m (p + 4) (λ q. ends (Consumed q)))))) ≤ most - n
     second n p Short l = omega arith
     second n p (Value m) l = inner n p m (ltb most (n + m)) refl l
 
-    outer : (n : ℕ) (b : Bool) → ltb most n ≡ b → length (rowsIn (pick b (ends OverLimit) (group (eraseAt s) n 4 (λ p. reinstates most s n p)))) ≤ most
+    outer : (n : ℕ) (b : Bool) → ltb most n ≡ b
+        → length (rowsIn (pick b (ends OverLimit) (group (eraseAt s) n 4 (λ p. reinstates most s n p)))) ≤ most
     outer n true h = omega arith
     outer n false h =
         let l = ltb-false most n h in
         omega (arith, count-group (eraseAt s) n 4 (λ p. reinstates most s n p) (most - n) (λ p. second n p (u32At s p) l))
 
-    first : (w : U32At) → length (rowsIn (counted w (λ n. pick (ltb most n) (ends OverLimit) (group (eraseAt s) n 4 (λ p. reinstates most s n p))))) ≤ most
+    first : (w : U32At) → length
+        (rowsIn (counted w (λ n. pick (ltb most n) (ends OverLimit) (group (eraseAt s) n 4 (λ p. reinstates most s n p))))) ≤ most
     first Short = omega arith
     first (Value n) = outer n (ltb most n) refl
 
@@ -190,7 +206,8 @@ sound-read most s b =
     (λ p r q e.
     let g = erase-is s p r q e in
     let l = part-length p 32 s (g .0) in
-    subst (λ (x : Row). Sound s x) (g .1) (record { keyed = l; small = omega arith; inside = λ z. absurd (let o : _≡_ {A = ℕ} 0 1 = cc in omega arith) }))
+    subst (λ (x : Row). Sound s x) (g .1)
+    (record { keyed = l; small = omega arith; inside = λ z. absurd (let o : _≡_ {A = ℕ} 0 1 = cc in omega arith) }))
     (λ p r q e.
     let g = reinstate-is s p r q e in
     let h = g .0 in

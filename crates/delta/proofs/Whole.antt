@@ -43,7 +43,8 @@ unfolding clash
 clash-met seen r xs h = perm-clash rowKey (Permᴰ·middle r seen xs) ∙ rw (any-append _ seen xs, h)
 
 -- a row whose key no earlier one has
-clash-new : (seen : List Row) (r : Row) → has rowKey (r .key) seen ≡ false → clash rowKey seen ≡ false → clash rowKey (seen ++ (r ∷ [])) ≡ false
+clash-new : (seen : List Row) (r : Row) → has rowKey (r .key) seen ≡ false → clash rowKey seen ≡ false
+    → clash rowKey (seen ++ (r ∷ [])) ≡ false
 unfolding clash
 clash-new seen r h c = perm-clash rowKey (Permᴰ·middle r seen []) ∙ rw (append-nil, h, c)
 
@@ -57,7 +58,8 @@ walk-rows seen (x ∷ xs) e c = go (has rowKey (x .key) seen) refl (λ n. walk-r
     go : (b : Bool) → has rowKey (x .key) seen ≡ b
         → (has rowKey (x .key) seen ≡ false → walk (seen ++ (x ∷ [])) (prepend xs (ends e))
         ≡ pick (clash rowKey ((seen ++ (x ∷ [])) ++ xs)) (Duplicate, []) (e, (seen ++ (x ∷ [])) ++ xs))
-        → pick b (Duplicate, []) (walk (seen ++ (x ∷ [])) (prepend xs (ends e))) ≡ pick (clash rowKey (seen ++ (x ∷ xs))) (Duplicate, []) (e, seen ++ (x ∷ xs))
+        → pick b (Duplicate, []) (walk (seen ++ (x ∷ [])) (prepend xs (ends e)))
+        ≡ pick (clash rowKey (seen ++ (x ∷ xs))) (Duplicate, []) (e, seen ++ (x ∷ xs))
     go true h ih = rw (clash-met seen x xs h)
     go false h ih = ih h ∙ ap (λ (l : List Row). pick (clash rowKey l) (Duplicate, []) (e, l)) (append-assoc seen (x ∷ []) xs)
 
@@ -70,7 +72,8 @@ decoded-read most s xs e q =
     none : clash rowKey [] ≡ false
     none = unfold clash in refl
 
-    go : (b : Bool) → answered (pick {A = Decoding × List Row} b (Duplicate, []) (e, xs) .0) (pick {A = Decoding × List Row} b (Duplicate, []) (e, xs) .1) ≡ pick b (refusedOf Duplicate) (answered e xs)
+    go : (b : Bool) → answered (pick {A = Decoding × List Row} b (Duplicate, []) (e, xs) .0)
+        (pick {A = Decoding × List Row} b (Duplicate, []) (e, xs) .1) ≡ pick b (refusedOf Duplicate) (answered e xs)
     go true = refl
     go false = refl
 
@@ -83,7 +86,8 @@ Refused Duplicate = Unit {0}
 
 -- an answer of another case than the first is a refusal
 pub other-refused : (d : Decoding) → OneOf (1 ∷ 2 ∷ 3 ∷ []) (Declared.tagOf DecodingType.the-type d) → Refused d
-other-refused (Consumed n) h = ⊎-elim (λ (e : 0 ≡ 1). absurd (omega arith)) (λ k. ⊎-elim (λ (e : 0 ≡ 2). absurd (omega arith)) (λ (e : 0 ≡ 3). absurd (omega arith)) k) h
+other-refused (Consumed n) h = ⊎-elim (λ (e : 0 ≡ 1). absurd (omega arith))
+    (λ k. ⊎-elim (λ (e : 0 ≡ 2). absurd (omega arith)) (λ (e : 0 ≡ 3). absurd (omega arith)) k) h
 other-refused EndsEarly h = tt
 other-refused OverLimit h = tt
 other-refused Duplicate h = tt
@@ -101,7 +105,8 @@ answered-refused OverLimit xs h = refl
 answered-refused Duplicate xs h = refl
 
 -- a reading that ended before the first row
-read-nothing : (most : ℕ) (s : List ℕ) (e : Decoding) (r : Read) → reading most s ≡ ends e → r ≡ record { answer = e; table = tableOf [] } → WholeRead most s r
+read-nothing : (most : ℕ) (s : List ℕ) (e : Decoding) (r : Read) → reading most s ≡ ends e → r ≡ record { answer = e; table = tableOf [] }
+    → WholeRead most s r
 unfolding prepend
 read-nothing most s e r q w =
     record {
@@ -119,7 +124,7 @@ module _ (most : ℕ) (s : List ℕ) (w : U32At) (e : w ≡ u32At s 0) where
     pub read-over : most < n → (r : Read) → r ≡ record { answer = OverLimit; table = tableOf [] } → WholeRead most s r
     read-over h r q = read-nothing most s OverLimit r (unfold reading in rw (sym e ∙ f, lt-ltb most n h)) q
 
-    module _ (h : n ≤ most) (size : ℕ) (r : Read) (g : Reads size n [] (λ next. group (eraseAt s) n 4 next) r) where
+    module _ (h : n ≤ most) (size : ℕ) (r : Read) (g : Reads size n [] (group (eraseAt s) n 4) r) where
       first-group : reading most s ≡ group (eraseAt s) n 4 (λ p. reinstates most s n p)
       unfolding reading
       first-group = rw (sym e ∙ f, le-ltb most n h)
@@ -129,7 +134,11 @@ module _ (most : ℕ) (s : List ℕ) (w : U32At) (e : w ≡ u32At s 0) where
 
       -- the erase group is not whole
       pub read-erases : Refused (r .answer) → WholeRead most s r
-      read-erases b = record { same = erases ∙ ap (prepend (rowsOf (r .table))) (onward-refused (r .answer) (reinstates most s n) b); plain = g .plain }
+      read-erases b = record {
+        same = erases ∙ ap (prepend (rowsOf (r .table)))
+            (onward-refused (r .answer) (reinstates most s n) b);
+        plain = g .plain;
+      }
 
       module _ (p : ℕ) (k : r .answer ≡ Consumed p) (v : U32At) (c : v ≡ u32At s p) where
         behind : reading most s ≡ prepend (rowsOf (r .table)) (reinstates most s n p)
@@ -142,11 +151,15 @@ module _ (most : ℕ) (s : List ℕ) (w : U32At) (e : w ≡ u32At s 0) where
         module _ (m : ℕ) (b : v ≡ Value m) where
           -- the counts together pass the limit
           pub read-many : most < n + m → WholeRead most s (record { answer = OverLimit; table = r .table })
-          read-many o = record { same = behind ∙ ap (prepend (rowsOf (r .table))) (unfold reinstates in rw (sym c ∙ b, lt-ltb most (n + m) o)); plain = g .plain }
+          read-many o = record {
+            same = behind ∙ ap (prepend (rowsOf (r .table)))
+                (unfold reinstates in rw (sym c ∙ b, lt-ltb most (n + m) o));
+            plain = g .plain;
+          }
 
           -- both groups
           pub read-both : n + m ≤ most → (size' : ℕ) (q : Read)
-              → Reads size' (r .table .count + m) (rowsOf (r .table)) (λ next. group (reinstateAt s) m (p + 4) next) q → WholeRead most s q
+              → Reads size' (r .table .count + m) (rowsOf (r .table)) (group (reinstateAt s) m (p + 4)) q → WholeRead most s q
           read-both o size' q z =
               record {
                 same = behind ∙ ap (prepend (rowsOf (r .table))) both
@@ -165,7 +178,8 @@ module _ (most : ℕ) (s : List ℕ) (w : U32At) (e : w ≡ u32At s 0) where
 
 -- what `decode` answers, by the rows put in order
 module _ (most : ℕ) (s : List ℕ) (r : Read) (w : WholeRead most s r) (a : Arranged) (q : a ≡ arrangedOf (rowsOf (r .table))) where
-  told : (b : Bool) → clash rowKey (rowsOf (r .table)) ≡ b → (a .twins ≡ b) × (b ≡ false → a .table ≡ tableOf (sortBy rowKey (rowsOf (r .table))))
+  told : (b : Bool) → clash rowKey (rowsOf (r .table)) ≡ b → (a .twins ≡ b)
+      × (b ≡ false → a .table ≡ tableOf (sortBy rowKey (rowsOf (r .table))))
   told true c =
       let z : a ≡ record { twins = true; table = tableOf [] } = q ∙ rw c in
       (ap (λ (x : Arranged). x .twins) z, λ f. absurd (let o : _≡_ {A = ℕ} 0 1 = cc in omega arith))
@@ -196,7 +210,8 @@ module _ (most : ℕ) (s : List ℕ) (r : Read) (w : WholeRead most s r) (a : Ar
     decode-fault b = once ∙ answered-refused (r .answer) (rowsOf (r .table)) b
 
     -- no fault
-    pub decode-good : (n : ℕ) → r .answer ≡ Consumed n → _≡_ {A = Decoded} (record { answer = Consumed n; table = a .table }) (decodedOf most s)
+    pub decode-good : (n : ℕ) → r .answer ≡ Consumed n → _≡_ {A = Decoded} (record { answer = Consumed n; table = a .table })
+        (decodedOf most s)
     decode-good n e =
         let c : a .table ≡ tableOf (sortBy rowKey (rowsOf (r .table))) =
         told (clash rowKey (rowsOf (r .table))) refl .1 (sym same ∙ t) in

@@ -1,4 +1,4 @@
--- Tables with the same rows in another order are encoded to the same bytes; and a decoded table, encoded over its input, decodes to the same.
+-- Tables with the same rows in another order are encoded to the same bytes; a decoded table, encoded over its input, decodes to the same.
 -- Assumes nothing.
 use Prim.Native.Nat.{ℕ, zero, suc, _+_, _<_, _≤_}
 use mathlib.Core.Bool.{Bool, true, false, _||_}
@@ -32,7 +32,8 @@ pub record SameRows (t u : Table) : Type 0 where
   pub rows : List·Permᴰ (rowsOf t) (rowsOf u)
 
 -- they are encoded to the same bytes, and refused alike
-pub encode-order : (most : ℕ) (t u : Table) (v out : List ℕ) → SameRows t u → (encodedOf most t v out ≡ encodedOf most u v out) × (afterOf most t v out ≡ afterOf most u v out)
+pub encode-order : (most : ℕ) (t u : Table) (v out : List ℕ) → SameRows t u
+    → (encodedOf most t v out ≡ encodedOf most u v out) × (afterOf most t v out ≡ afterOf most u v out)
 unfolding encodedOf
 encode-order most t u v out w = go (clash rowKey (rowsOf t)) refl
   where
@@ -52,10 +53,14 @@ encode-order most t u v out w = go (clash rowKey (rowsOf t)) refl
     refused false true bt bu = refl
     refused false false bt bu = refl
 
-    go : (b : Bool) → clash rowKey (rowsOf t) ≡ b → (encodedOf most t v out ≡ encodedOf most u v out) × (afterOf most t v out ≡ afterOf most u v out)
+    go : (b : Bool) → clash rowKey (rowsOf t) ≡ b → (encodedOf most t v out ≡ encodedOf most u v out)
+        × (afterOf most t v out ≡ afterOf most u v out)
     go true c =
-        let d : clash rowKey (rowsOf u) ≡ true = sym once ∙ c in
-        (rw (few, inside, c, d), rw (few, inside, c, d) (refused (ltb most (u .count)) (any (outside (length v)) (rowsOf u)) (bytesOf t v) (bytesOf u v)))
+        let d : clash rowKey (rowsOf u) ≡ true = sym once ∙ c in (
+          rw (few, inside, c, d),
+          rw (few, inside, c, d) (refused (ltb most (u .count)) (any (outside (length v)) (rowsOf u)) (bytesOf t v)
+              (bytesOf u v)),
+        )
     go false c =
         let b : bytesOf t v ≡ bytesOf u v = ap (deltaBytes v) (sort-order rowKey (rowsOf t) (rowsOf u) c (w .rows)) in
         (rw (few, inside, once, b), rw (few, inside, once, b))
@@ -118,7 +123,13 @@ module _ (s : List ℕ) (b : Bytes s) (n : ℕ) (t : Table) (e : decodedOf 256 s
   pub decode-encode : (out : List ℕ) → length (bytesOf t s) ≤ length out → encodedOf 256 t s out ≡ Written (length (bytesOf t s))
   unfolding encodedOf
   decode-encode out h =
-      rw (le-ltb 256 (t .count) few, none-outside s (rowsOf t) sound, ascending-clash rowKey (rowsOf t) rises, le-ltb (length out) (length (bytesOf t s)) h)
+      rw (
+        le-ltb 256 (t .count) few,
+        none-outside s (rowsOf t) sound,
+        ascending-clash rowKey (rowsOf t) rises,
+        le-ltb (length out)
+            (length (bytesOf t s)) h,
+      )
 
   -- and decodes to the same keys, marks and value bytes, with anything behind it
   pub decode-encode-decode : (out rest : List ℕ) → length (bytesOf t s) ≤ length out

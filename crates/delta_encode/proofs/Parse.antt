@@ -45,7 +45,8 @@ movedRows p (r ∷ rs) =
     pick (r .present) (reinstated (r .key) (p + 36) (r .length) ∷ movedRows (p + (36 + r .length)) rs) (erased (r .key) ∷ movedRows p rs)
 
 -- a part at the front of what is left
-pub cut : (s a b : List ℕ) (p n : ℕ) → drop p s ≡ a ++ b → length a ≡ n → p ≤ length s → (p + n ≤ length s) × (part p n s ≡ a) × (drop (p + n) s ≡ b)
+pub cut : (s a b : List ℕ) (p n : ℕ) → drop p s ≡ a ++ b → length a ≡ n → p ≤ length s
+    → (p + n ≤ length s) × (part p n s ≡ a) × (drop (p + n) s ≡ b)
 cut s a b p n e l h =
     let d = length-drop p s in
     let m = ap length e ∙ length-append a b in
@@ -64,14 +65,16 @@ count-at s t p x e h small =
     u32-value s p (le-leb (p + 4) (length s) (c .0)) ∙ ap Value (number s t p x e h small)
 
 -- a key at the front of what is left
-erased-at : (s u : List ℕ) (r : Row) (p : ℕ) → length (r .key) ≡ 32 → drop p s ≡ r .key ++ u → p ≤ length s → eraseAt s p ≡ got (erased (r .key)) (p + 32)
+erased-at : (s u : List ℕ) (r : Row) (p : ℕ) → length (r .key) ≡ 32 → drop p s ≡ r .key ++ u → p ≤ length s
+    → eraseAt s p ≡ got (erased (r .key)) (p + 32)
 unfolding eraseAt
 erased-at s u r p k e h =
     let c = cut s (r .key) u p 32 e k h in
     rw (le-leb (p + 32) (length s) (c .0), c .1)
 
 -- the erase group
-pub parse-erases : (s tail : List ℕ) (ys : List Row) (p : ℕ) (next : ℕ → Reading) → Keyed ys → drop p s ≡ concat eraseBytes ys ++ tail → p ≤ length s
+pub parse-erases : (s tail : List ℕ) (ys : List Row) (p : ℕ) (next : ℕ → Reading) → Keyed ys → drop p s ≡ concat eraseBytes ys ++ tail
+    → p ≤ length s
     → group (eraseAt s) (sum erases ys) p next ≡ prepend (erasedRows ys) (next (p + length (concat eraseBytes ys)))
 unfolding group concat sum prepend
 parse-erases s tail [] p next k e h = ap next (sym (add-zero p))
@@ -81,7 +84,8 @@ parse-erases s tail (r ∷ rs) p next k e h = go (r .present) e (λ p' e' h'. pa
         → ((p' : ℕ) → drop p' s ≡ concat eraseBytes rs ++ tail → p' ≤ length s
         → group (eraseAt s) (sum erases rs) p' next ≡ prepend (erasedRows rs) (next (p' + length (concat eraseBytes rs))))
         → group (eraseAt s) (pick b 0 1 + sum erases rs) p next
-        ≡ prepend (pick b (erasedRows rs) (erased (r .key) ∷ erasedRows rs)) (next (p + length (pick b [] (r .key) ++ concat eraseBytes rs)))
+        ≡ prepend (pick b (erasedRows rs) (erased (r .key) ∷ erasedRows rs))
+        (next (p + length (pick b [] (r .key) ++ concat eraseBytes rs)))
     go true e ih = rw zero-add (ih p e h)
     go false e ih =
         let e' : drop p s ≡ r .key ++ (concat eraseBytes rs ++ tail) = e ∙ append-assoc (r .key) (concat eraseBytes rs) tail in
@@ -147,7 +151,8 @@ abbrev present-bytes : List ℕ → Row → List ℕ
 present-bytes v r = r .key ++ (leBytes 4 (r .length) ++ valueOf v r)
 
 -- the reinstate group
-pub parse-reinstates : (s v tail : List ℕ) (ys : List Row) (p : ℕ) (next : ℕ → Reading) → Keyed ys → Small ys → any (outside (length v)) ys ≡ false
+pub parse-reinstates : (s v tail : List ℕ) (ys : List Row) (p : ℕ) (next : ℕ → Reading) → Keyed ys → Small ys
+    → any (outside (length v)) ys ≡ false
     → drop p s ≡ concat (reinstateBytes v) ys ++ tail → p ≤ length s
     → group (reinstateAt s) (sum reinstates ys) p next ≡ prepend (reinstatedRows p ys) (next (p + length (concat (reinstateBytes v) ys)))
 unfolding group concat sum prepend
@@ -157,7 +162,8 @@ parse-reinstates s v tail (r ∷ rs) p next k z a e h =
   where
     go : (b : Bool) → r .present ≡ b → drop p s ≡ (pick b (present-bytes v r) [] ++ concat (reinstateBytes v) rs) ++ tail
         → ((p' : ℕ) → drop p' s ≡ concat (reinstateBytes v) rs ++ tail → p' ≤ length s
-        → group (reinstateAt s) (sum reinstates rs) p' next ≡ prepend (reinstatedRows p' rs) (next (p' + length (concat (reinstateBytes v) rs))))
+        → group (reinstateAt s) (sum reinstates rs) p' next ≡ prepend (reinstatedRows p' rs)
+        (next (p' + length (concat (reinstateBytes v) rs))))
         → group (reinstateAt s) (pick b 1 0 + sum reinstates rs) p next
         ≡ prepend (pick b (reinstated (r .key) (p + 36) (r .length) ∷ reinstatedRows (p + (36 + r .length)) rs) (reinstatedRows p rs))
         (next (p + length (pick b (present-bytes v r) [] ++ concat (reinstateBytes v) rs)))
@@ -169,7 +175,8 @@ parse-reinstates s v tail (r ∷ rs) p next k z a e h =
         let c = reinstated-rest s v u r p (k .0) (z .0) i e' h in
         let l = present-length v r (k .0) i in
         let m = length-append (present-bytes v r) (concat (reinstateBytes v) rs) in
-        let n : p + (36 + r .length) + length (concat (reinstateBytes v) rs) ≡ p + length (present-bytes v r ++ concat (reinstateBytes v) rs) = omega arith in
+        let n : p + (36 + r .length) + length (concat (reinstateBytes v) rs)
+        ≡ p + length (present-bytes v r ++ concat (reinstateBytes v) rs) = omega arith in
         rw (one-add, reinstated-at s v u r p (k .0) (z .0) i e' h)
         (ap (row (reinstated (r .key) (p + 36) (r .length)))
         (ih (p + (36 + r .length)) (c .1) (c .0) ∙ ap (λ (j : ℕ). prepend (reinstatedRows (p + (36 + r .length)) rs) (next j)) n))
@@ -179,11 +186,13 @@ pub moved-entries : (s v tail : List ℕ) (ys : List Row) (p : ℕ) → Keyed ys
     → drop p s ≡ concat (reinstateBytes v) ys ++ tail → p ≤ length s → entries s (movedRows p ys) ≡ entries v ys
 unfolding concat
 moved-entries s v tail [] p k z a e h = refl
-moved-entries s v tail (r ∷ rs) p k z a e h = go (r .present) refl e (λ p' e' h'. moved-entries s v tail rs p' (k .1) (z .1) (within v r rs a .1) e' h')
+moved-entries s v tail (r ∷ rs) p k z a e h = go (r .present) refl e
+    (λ p' e' h'. moved-entries s v tail rs p' (k .1) (z .1) (within v r rs a .1) e' h')
   where
     go : (b : Bool) → r .present ≡ b → drop p s ≡ (pick b (present-bytes v r) [] ++ concat (reinstateBytes v) rs) ++ tail
         → ((p' : ℕ) → drop p' s ≡ concat (reinstateBytes v) rs ++ tail → p' ≤ length s → entries s (movedRows p' rs) ≡ entries v rs)
-        → entries s (pick b (reinstated (r .key) (p + 36) (r .length) ∷ movedRows (p + (36 + r .length)) rs) (erased (r .key) ∷ movedRows p rs))
+        → entries s (pick b (reinstated (r .key) (p + 36) (r .length) ∷ movedRows (p + (36 + r .length)) rs)
+        (erased (r .key) ∷ movedRows p rs))
         ≡ record { key = r .key; present = b; value = pick b (valueOf v r) [] } ∷ entries v rs
     go false y e ih = ap (λ l. record { key = r .key; present = false; value = [] } ∷ l) (ih p e h)
     go true y e ih =

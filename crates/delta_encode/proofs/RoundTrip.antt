@@ -51,7 +51,8 @@ moved-perm p (r ∷ rs) = go (r .present) (moved-perm (p + (36 + r .length)) rs)
         ++ pick b (reinstated (r .key) (p + 36) (r .length) ∷ reinstatedRows (p + (36 + r .length)) rs) (reinstatedRows p rs))
         (pick b (reinstated (r .key) (p + 36) (r .length) ∷ movedRows (p + (36 + r .length)) rs) (erased (r .key) ∷ movedRows p rs))
     go true a b =
-        List·Permᴰ·trans (Permᴰ·middle (reinstated (r .key) (p + 36) (r .length)) (erasedRows rs) (reinstatedRows (p + (36 + r .length)) rs))
+        List·Permᴰ·trans (Permᴰ·middle (reinstated (r .key) (p + 36) (r .length)) (erasedRows rs)
+        (reinstatedRows (p + (36 + r .length)) rs))
         (List·Permᴰ·cons refl a)
     go false a b = List·Permᴰ·cons refl b
 
@@ -64,7 +65,8 @@ moved-least x y p (r ∷ rs) e l = go (r .present) (moved-least x y (p + (36 + r
     q = rw e (l .0)
 
     go : (b : Bool) → Least rowKey y (movedRows (p + (36 + r .length)) rs) → Least rowKey y (movedRows p rs)
-        → Least rowKey y (pick b (reinstated (r .key) (p + 36) (r .length) ∷ movedRows (p + (36 + r .length)) rs) (erased (r .key) ∷ movedRows p rs))
+        → Least rowKey y (pick b (reinstated (r .key) (p + 36) (r .length) ∷ movedRows (p + (36 + r .length)) rs)
+        (erased (r .key) ∷ movedRows p rs))
     go true u w = (q, u)
     go false u w = (q, w)
 
@@ -73,7 +75,8 @@ moved-ascending p [] a = tt
 moved-ascending p (r ∷ rs) a = go (r .present) (moved-ascending (p + (36 + r .length)) rs (a .1)) (moved-ascending p rs (a .1))
   where
     go : (b : Bool) → Ascending rowKey (movedRows (p + (36 + r .length)) rs) → Ascending rowKey (movedRows p rs)
-        → Ascending rowKey (pick b (reinstated (r .key) (p + 36) (r .length) ∷ movedRows (p + (36 + r .length)) rs) (erased (r .key) ∷ movedRows p rs))
+        → Ascending rowKey (pick b (reinstated (r .key) (p + 36) (r .length) ∷ movedRows (p + (36 + r .length)) rs)
+        (erased (r .key) ∷ movedRows p rs))
     go true u w = (moved-least r (reinstated (r .key) (p + 36) (r .length)) (p + (36 + r .length)) rs refl (a .0), u)
     go false u w = (moved-least r (erased (r .key)) p rs refl (a .0), w)
 
@@ -83,7 +86,8 @@ unfolding sum
 counts [] = refl
 counts (r ∷ rs) = go (r .present) (counts rs)
   where
-    go : (b : Bool) → sum erases rs + sum reinstates rs ≡ length rs → (pick b 0 1 + sum erases rs) + (pick b 1 0 + sum reinstates rs) ≡ suc (length rs)
+    go : (b : Bool) → sum erases rs + sum reinstates rs ≡ length rs
+        → (pick b 0 1 + sum erases rs) + (pick b 1 0 + sum reinstates rs) ≡ suc (length rs)
     go true h = omega arith
     go false h = omega arith
 
@@ -112,46 +116,64 @@ module _ (v rest : List ℕ) (ys : List Row) (a : Ascending rowKey ys) (k : Keye
       (omega arith, omega arith, omega arith, omega arith)
 
   c0 : (4 ≤ length s) × (take 4 (drop 0 s) ≡ leBytes 4 (sum erases ys)) × (drop 4 s ≡ E ++ (leBytes 4 (sum reinstates ys) ++ (K ++ rest)))
-  c0 = cut s (leBytes 4 (sum erases ys)) (E ++ (leBytes 4 (sum reinstates ys) ++ (K ++ rest))) 0 4 all (le-bytes-length 4 (sum erases ys)) (omega arith)
+  c0 = cut s (leBytes 4 (sum erases ys)) (E ++ (leBytes 4 (sum reinstates ys) ++ (K ++ rest))) 0 4 all (le-bytes-length 4 (sum erases ys))
+      (omega arith)
 
   ce : (4 + length E ≤ length s) × (take (length E) (drop 4 s) ≡ E) × (drop (4 + length E) s ≡ leBytes 4 (sum reinstates ys) ++ (K ++ rest))
   ce = cut s E (leBytes 4 (sum reinstates ys) ++ (K ++ rest)) 4 (length E) (c0 .2) refl (c0 .0)
 
-  cm : (4 + length E + 4 ≤ length s) × (take 4 (drop (4 + length E) s) ≡ leBytes 4 (sum reinstates ys)) × (drop (4 + length E + 4) s ≡ K ++ rest)
+  cm : (4 + length E + 4 ≤ length s) × (take 4 (drop (4 + length E) s) ≡ leBytes 4 (sum reinstates ys))
+      × (drop (4 + length E + 4) s ≡ K ++ rest)
   cm = cut s (leBytes 4 (sum reinstates ys)) (K ++ rest) (4 + length E) 4 (ce .2) (le-bytes-length 4 (sum reinstates ys)) (ce .0)
 
-  second-start : Delta.reinstates 256 s (sum erases ys) (4 + length E) ≡ group (reinstateAt s) (sum reinstates ys) (start ys) (λ q. ends (Consumed q))
+  second-start : Delta.reinstates 256 s (sum erases ys) (4 + length E)
+      ≡ group (reinstateAt s) (sum reinstates ys) (start ys) (λ q. ends (Consumed q))
   unfolding Delta.reinstates
   second-start =
-      rw (count-at s (K ++ rest) (4 + length E) (sum reinstates ys) (ce .2) (ce .0) (few .1), le-ltb 256 (sum erases ys + sum reinstates ys) (few .3))
+      rw (
+        count-at s (K ++ rest) (4 + length E) (sum reinstates ys) (ce .2) (ce .0) (few .1),
+        le-ltb 256
+            (sum erases ys + sum reinstates ys) (few .3),
+      )
 
-  second-group : Delta.reinstates 256 s (sum erases ys) (4 + length E) ≡ prepend (reinstatedRows (start ys) ys) (ends (Consumed (start ys + length K)))
+  second-group : Delta.reinstates 256 s (sum erases ys) (4 + length E)
+      ≡ prepend (reinstatedRows (start ys) ys) (ends (Consumed (start ys + length K)))
   second-group = second-start ∙ parse-reinstates s v rest ys (start ys) (λ q. ends (Consumed q)) k z i (cm .2) (cm .0)
 
   first-start : reading 256 s ≡ group (eraseAt s) (sum erases ys) 4 (λ p. Delta.reinstates 256 s (sum erases ys) p)
   unfolding reading
   first-start =
-      rw (count-at s (E ++ (leBytes 4 (sum reinstates ys) ++ (K ++ rest))) 0 (sum erases ys) all (omega arith) (few .0), le-ltb 256 (sum erases ys) (few .2))
+      rw (
+        count-at s (E ++ (leBytes 4 (sum reinstates ys) ++ (K ++ rest))) 0 (sum erases ys) all (omega arith) (few .0),
+        le-ltb 256
+            (sum erases ys) (few .2),
+      )
 
   read : reading 256 s ≡ prepend (erasedRows ys ++ reinstatedRows (start ys) ys) (ends (Consumed (start ys + length K)))
   read =
       first-start
       ∙ parse-erases s (leBytes 4 (sum reinstates ys) ++ (K ++ rest)) ys 4 (λ p. Delta.reinstates 256 s (sum erases ys) p) k (c0 .2) (c0 .0)
-      ∙ ap (prepend (erasedRows ys)) second-group ∙ sym (prepend-append (erasedRows ys) (reinstatedRows (start ys) ys) (ends (Consumed (start ys + length K))))
+      ∙ ap (prepend (erasedRows ys)) second-group ∙ sym (prepend-append (erasedRows ys) (reinstatedRows (start ys) ys)
+      (ends (Consumed (start ys + length K))))
 
   long : start ys + length K ≡ length (deltaBytes v ys)
   long =
       let b = bytes-length v ys in
       omega arith
 
-  -- decoding the bytes, whatever follows them, takes them all and gives the rows in the same order, with the values where the bytes have them
+  -- decoding the bytes, whatever follows them, takes them all and gives the rows in the same order, with the values where they now are
   pub decode-bytes : decodedOf 256 s ≡ record { answer = Consumed (length (deltaBytes v ys)); table = tableOf (movedRows (start ys) ys) }
   decode-bytes =
       let m = moved-perm (start ys) ys in
       let up = moved-ascending (start ys) ys a in
-      let once : clash rowKey (erasedRows ys ++ reinstatedRows (start ys) ys) ≡ false = perm-clash rowKey m ∙ ascending-clash rowKey (movedRows (start ys) ys) up in
+      let once : clash rowKey (erasedRows ys ++ reinstatedRows (start ys) ys) ≡ false = perm-clash rowKey m
+      ∙ ascending-clash rowKey (movedRows (start ys) ys) up in
       decoded-read 256 s (erasedRows ys ++ reinstatedRows (start ys) ys) (Consumed (start ys + length K)) read
-      ∙ rw once (λ j. record { answer = Consumed (long j); table = tableOf (sort-unique rowKey (erasedRows ys ++ reinstatedRows (start ys) ys) (movedRows (start ys) ys) up m j) })
+      ∙ rw once (λ j. record {
+        answer = Consumed (long j);
+        table = tableOf
+            (sort-unique rowKey (erasedRows ys ++ reinstatedRows (start ys) ys) (movedRows (start ys) ys) up m j);
+      })
 
   -- and the keys, marks and value bytes are the same
   pub same-entries : entries s (movedRows (start ys) ys) ≡ entries v ys
@@ -168,10 +190,12 @@ pub record GivesBack (said : List Entry) (n : ℕ) (bytes : List ℕ) (d : Decod
   pub rises : Ascending rowKey (rowsOf (d .table))
 
 -- decoding the bytes of ascending rows gives them back
-pub bytes-decode : (v rest : List ℕ) (ys : List Row) → Ascending rowKey ys → Keyed ys → Small ys → any (outside (length v)) ys ≡ false → length ys ≤ 256
+pub bytes-decode : (v rest : List ℕ) (ys : List Row) → Ascending rowKey ys → Keyed ys → Small ys → any (outside (length v)) ys ≡ false
+    → length ys ≤ 256
     → GivesBack (entries v ys) (length (deltaBytes v ys)) (deltaBytes v ys ++ rest) (decodedOf 256 (deltaBytes v ys ++ rest))
 bytes-decode v rest ys a k z i f =
-    subst (λ (d : Decoded). GivesBack (entries v ys) (length (deltaBytes v ys)) (deltaBytes v ys ++ rest) d) (sym (decode-bytes v rest ys a k z i f))
+    subst (λ (d : Decoded). GivesBack (entries v ys) (length (deltaBytes v ys)) (deltaBytes v ys ++ rest) d)
+    (sym (decode-bytes v rest ys a k z i f))
     (record {
       consumed = refl;
       says = ap (entries (deltaBytes v ys ++ rest)) (rows-table (movedRows (start ys) ys)) ∙ same-entries v rest ys a k z i f;
@@ -188,18 +212,28 @@ pub record Accepted (t : Table) (v out : List ℕ) (n : ℕ) : Type 0 where
 
 pub accepted-by : (t : Table) (v out : List ℕ) (n : ℕ) → encodedOf 256 t v out ≡ Written n → Accepted t v out n
 unfolding encodedOf
-accepted-by t v out n e = go (ltb 256 (t .count)) refl (any (outside (length v)) (rowsOf t)) refl (clash rowKey (rowsOf t)) refl (ltb (length out) (length (bytesOf t v))) refl e
+accepted-by t v out n e = go (ltb 256 (t .count)) refl (any (outside (length v)) (rowsOf t)) refl (clash rowKey (rowsOf t)) refl
+    (ltb (length out) (length (bytesOf t v))) refl e
   where
-    go : (w : Bool) → ltb 256 (t .count) ≡ w → (x : Bool) → any (outside (length v)) (rowsOf t) ≡ x → (y : Bool) → clash rowKey (rowsOf t) ≡ y
+    go : (w : Bool) → ltb 256 (t .count) ≡ w → (x : Bool) → any (outside (length v)) (rowsOf t) ≡ x → (y : Bool)
+        → clash rowKey (rowsOf t) ≡ y
         → (z : Bool) → ltb (length out) (length (bytesOf t v)) ≡ z
-        → pick w Outside (pick x Outside (pick y Encoding.Duplicate (pick z Short (Written (length (bytesOf t v)))))) ≡ Written n → Accepted t v out n
+        → pick w Outside (pick x Outside (pick y Encoding.Duplicate (pick z Short (Written (length (bytesOf t v)))))) ≡ Written n
+        → Accepted t v out n
     go true p x q y r z s e = absurd (let o : _≡_ {A = ℕ} 0 1 = cc in omega arith)
     go false p true q y r z s e = absurd (let o : _≡_ {A = ℕ} 0 1 = cc in omega arith)
     go false p false q true r z s e = absurd (let o : _≡_ {A = ℕ} 0 1 = cc in omega arith)
     go false p false q false r true s e = absurd (let o : _≡_ {A = ℕ} 0 1 = cc in omega arith)
     go false p false q false r false s e =
         let m : length (bytesOf t v) ≡ n = cc in
-        record { few = ltb-false 256 (t .count) p; inside = q; once = r; room = ltb-false (length out) (length (bytesOf t v)) s; size = sym m }
+        record {
+          few = ltb-false 256 (t .count) p;
+          inside = q;
+          once = r;
+          room = ltb-false (length out)
+              (length (bytesOf t v)) s;
+          size = sym m;
+        }
 
 -- THE ROUND TRIP: an accepted encoding, with anything behind it, decodes to the same keys, marks and value bytes, in ascending order, and
 -- just the encoding is consumed
@@ -211,7 +245,8 @@ encode-decode t v out rest n h e =
     let long = perm-length (sort-perm rowKey (rowsOf t)) in
     let most = length-take (t .count) (t .rows) in
     let few = w .few in
-    subst (λ (k : ℕ). GivesBack (entries v (sortBy rowKey (rowsOf t))) k (bytesOf t v ++ rest) (decodedOf 256 (bytesOf t v ++ rest))) (sym (w .size))
+    subst (λ (k : ℕ). GivesBack (entries v (sortBy rowKey (rowsOf t))) k (bytesOf t v ++ rest) (decodedOf 256 (bytesOf t v ++ rest)))
+    (sym (w .size))
     (bytes-decode v rest (sortBy rowKey (rowsOf t)) (ascending-sort rowKey (rowsOf t) (w .once))
     (perm-every (λ r. length (r .key) ≡ 32) back (h .keyed)) (perm-every (λ r. r .length < 4294967296) back (h .small))
     (perm-any (outside (length v)) (sort-perm rowKey (rowsOf t)) ∙ w .inside) (omega arith))

@@ -58,5 +58,6 @@ deltaSpecimens =
     ∷ []
 
 pub delta-specimens : All deltaSpecimens
-unfolding leAt leBytes u32At compareKeys rank any sortBy clash eraseAt reinstateAt group reinstates reading walk concat sum deltaBytes encodedOf splice
+unfolding leAt leBytes u32At compareKeys rank any sortBy clash eraseAt reinstateAt group reinstates reading walk concat sum deltaBytes
+    encodedOf splice
 delta-specimens = (refl, (refl, (refl, (refl, (refl, (refl, (refl, (refl, (refl, (refl, (refl, (refl, (refl, (refl, (refl, tt)))))))))))))))

@@ -35,7 +35,8 @@ groups-length v (r ∷ rs) k a = go (r .present) refl (outside (length v) r) ref
   where
     go : (b : Bool) → r .present ≡ b → (c : Bool) → outside (length v) r ≡ c → c || any (outside (length v)) rs ≡ false
         → (any (outside (length v)) rs ≡ false → length (concat eraseBytes rs) + length (concat (reinstateBytes v) rs) ≡ sum sizeOf rs)
-        → length (eraseBytes r ++ concat eraseBytes rs) + length (reinstateBytes v r ++ concat (reinstateBytes v) rs) ≡ sizeOf r + sum sizeOf rs
+        → length (eraseBytes r ++ concat eraseBytes rs) + length (reinstateBytes v r ++ concat (reinstateBytes v) rs)
+        ≡ sizeOf r + sum sizeOf rs
     go b p true q t ih = absurd (let z : _≡_ {A = ℕ} 0 1 = cc in omega arith)
     go true p false q t ih =
         let h = present-length v r (k .0) (ltb-false (length v) (r .offset + r .length) (rw p at q)) in
@@ -49,7 +50,8 @@ groups-length v (r ∷ rs) k a = go (r .present) refl (outside (length v) r) ref
         rw p (omega arith)
 
 -- the two counts and the groups
-pub bytes-length : (v : List ℕ) (ys : List Row) → length (deltaBytes v ys) ≡ length (concat eraseBytes ys) + length (concat (reinstateBytes v) ys) + 8
+pub bytes-length : (v : List ℕ) (ys : List Row) → length (deltaBytes v ys)
+    ≡ length (concat eraseBytes ys) + length (concat (reinstateBytes v) ys) + 8
 unfolding deltaBytes
 bytes-length v ys =
     let a = le-bytes-length 4 (sum erases ys) in
@@ -82,14 +84,16 @@ module _ (most : ℕ) (t : Table) (v o : List ℕ) where
       module _ (d : clash rowKey (rowsOf t) ≡ false) where
         -- no room
         pub ends-short : length o < length (bytesOf t v) → Ends most t v o Short o
-        ends-short l = refusal Short (unfold encodedOf in rw (le-ltb most (t .count) h, e, d, lt-ltb (length o) (length (bytesOf t v)) l)) refl
+        ends-short l = refusal Short (unfold encodedOf in rw (le-ltb most (t .count) h, e, d, lt-ltb (length o) (length (bytesOf t v)) l))
+            refl
 
         accepted : length (bytesOf t v) ≤ length o → encodedOf most t v o ≡ Written (length (bytesOf t v))
         unfolding encodedOf
         accepted l = rw (le-ltb most (t .count) h, e, d, le-ltb (length o) (length (bytesOf t v)) l)
 
         -- the bytes
-        pub ends-written : length (bytesOf t v) ≤ length o → (n : ℕ) (o' : List ℕ) → n ≡ length (bytesOf t v) → o' ≡ splice 0 (bytesOf t v) o
+        pub ends-written : length (bytesOf t v) ≤ length o → (n : ℕ) (o' : List ℕ) → n ≡ length (bytesOf t v)
+            → o' ≡ splice 0 (bytesOf t v) o
             → Ends most t v o (Written n) o'
         ends-written l n o' p q =
             (ap Written p ∙ sym (accepted l), q ∙ sym (ap (λ (x : Encoded). written x (bytesOf t v) o) (accepted l)))
@@ -106,7 +110,8 @@ splice-four o a b c d o1 o2 o3 o4 la lc e1 e2 e3 e4 =
     let f2 : o2 ≡ splice 0 (a ++ b) o =
     e2 ∙ ap (λ (x : List ℕ). splice 4 b x) e1 ∙ ap (λ (j : ℕ). splice j b (splice 0 a o)) n2 ∙ splice-join 0 a b o in
     let f3 : o3 ≡ splice 0 (a ++ b ++ c) o =
-    e3 ∙ ap (λ (x : List ℕ). splice (4 + length b) c x) f2 ∙ ap (λ (j : ℕ). splice j c (splice 0 (a ++ b) o)) n3 ∙ splice-join 0 (a ++ b) c o in
+    e3 ∙ ap (λ (x : List ℕ). splice (4 + length b) c x) f2 ∙ ap (λ (j : ℕ). splice j c (splice 0 (a ++ b) o)) n3
+    ∙ splice-join 0 (a ++ b) c o in
     e4 ∙ ap (λ (x : List ℕ). splice (4 + length b + 4) d x) f3 ∙ ap (λ (j : ℕ). splice j d (splice 0 (a ++ b ++ c) o)) n4
     ∙ splice-join 0 (a ++ b ++ c) d o
 
@@ -146,8 +151,10 @@ module _ (t : Table) (a : Arranged) (h : t .count ≤ 256) (e : a ≡ arrangedOf
 
   pub known : (v : List ℕ) (m : Sizes) → any (outside (length v)) (rowsOf t) ≡ false → Sized (rowsOf (a .table)) m → Known v t (a .table) m
   known v m w z =
-      let q : rowsOf (a .table) ≡ sortBy rowKey (rowsOf t) = ap rowsOf (arranged-table (rowsOf t) a e d) ∙ rows-table (sortBy rowKey (rowsOf t)) in
-      let n : any (outside (length v)) (rowsOf (a .table)) ≡ false = ap (any (outside (length v))) q ∙ perm-any (outside (length v)) (sort-perm rowKey (rowsOf t)) ∙ w in
+      let q : rowsOf (a .table) ≡ sortBy rowKey (rowsOf t) = ap rowsOf (arranged-table (rowsOf t) a e d)
+      ∙ rows-table (sortBy rowKey (rowsOf t)) in
+      let n : any (outside (length v)) (rowsOf (a .table)) ≡ false = ap (any (outside (length v))) q
+      ∙ perm-any (outside (length v)) (sort-perm rowKey (rowsOf t)) ∙ w in
       let s : bytesOf t v ≡ deltaBytes v (rowsOf (a .table)) = ap (deltaBytes v) (sym q) in
       let g = groups-length v (rowsOf (a .table)) (z .keyed) n in
       let b = bytes-length v (rowsOf (a .table)) in
@@ -162,7 +169,8 @@ pub four-parts : (v o : List ℕ) (ys : List Row) (e k p q : ℕ) (o1 o2 o3 o4 :
     → o4 ≡ splice (p + 4) (concat (reinstateBytes v) ys) o3 → o4 ≡ splice 0 (deltaBytes v ys) o
 unfolding deltaBytes
 four-parts v o ys e k p q o1 o2 o3 o4 he hk hp e1 e2 e3 e4 =
-    splice-four o (leBytes 4 (sum erases ys)) (concat eraseBytes ys) (leBytes 4 (sum reinstates ys)) (concat (reinstateBytes v) ys) o1 o2 o3 o4
+    splice-four o (leBytes 4 (sum erases ys)) (concat eraseBytes ys) (leBytes 4 (sum reinstates ys))
+    (concat (reinstateBytes v) ys) o1 o2 o3 o4
     (le-bytes-length 4 (sum erases ys)) (le-bytes-length 4 (sum reinstates ys)) (e1 ∙ ap (λ (n : ℕ). splice 0 (leBytes 4 n) o) he) e2
     (e3 ∙ ap (λ (n : ℕ). splice n (leBytes 4 k) o2) hp ∙ ap (λ (n : ℕ). splice (4 + length (concat eraseBytes ys)) (leBytes 4 n) o2) hk)
     (e4 ∙ ap (λ (n : ℕ). splice (n + 4) (concat (reinstateBytes v) ys) o3) hp)

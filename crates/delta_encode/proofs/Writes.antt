@@ -31,7 +31,8 @@ writing-start o at whole rest e =
 
 module _ (o : List ℕ) (at : ℕ) (whole out : List ℕ) (p : ℕ) (rest : List ℕ) (w : Writing o at whole out p rest) where
   -- a piece more
-  pub writing-step : (b more out' : List ℕ) (p' : ℕ) → rest ≡ b ++ more → out' ≡ splice p b out → p' ≡ p + length b → Writing o at whole out' p' more
+  pub writing-step : (b more out' : List ℕ) (p' : ℕ) → rest ≡ b ++ more → out' ≡ splice p b out → p' ≡ p + length b
+      → Writing o at whole out' p' more
   writing-step b more out' p' e q r =
       let n : length rest ≡ length b + length more = ap length e ∙ length-append b more in
       let left = w .left in
@@ -57,7 +58,8 @@ module _ (o : List ℕ) (at : ℕ) (whole out : List ℕ) (p : ℕ) (rest : List
       (omega arith, sym (w .same ∙ ap (λ (x : List ℕ). splice p x out) e ∙ splice-none p out))
 
 module _ (rows : List Row) (n i : ℕ) (l : n ≤ length rows) where
-  pub concat-front : (f : Row → List ℕ) (d : Row) → i < n → concat f (drop i (take n rows)) ≡ f (getD rows i d) ++ concat f (drop (i + 1) (take n rows))
+  pub concat-front : (f : Row → List ℕ) (d : Row) → i < n → concat f (drop i (take n rows))
+      ≡ f (getD rows i d) ++ concat f (drop (i + 1) (take n rows))
   unfolding concat
   concat-front f d h = rw (front rows n i d h l)
 
@@ -73,26 +75,33 @@ module _ (rows : List Row) (n i : ℕ) (l : n ≤ length rows) where
   keyed-end h = rw (drop-of-length-le (take n rows) {i = i} (simp (length-take-le n rows l) h)) tt
 
   module _ (d : Row) (h : i < n) where
-    pub erase-absent : getD rows i d .present ≡ false → concat eraseBytes (drop i (take n rows)) ≡ getD rows i d .key ++ concat eraseBytes (drop (i + 1) (take n rows))
+    pub erase-absent : getD rows i d .present ≡ false → concat eraseBytes (drop i (take n rows))
+        ≡ getD rows i d .key ++ concat eraseBytes (drop (i + 1) (take n rows))
     erase-absent e = concat-front eraseBytes d h ∙ rw e
 
-    pub erase-present : getD rows i d .present ≡ true → concat eraseBytes (drop i (take n rows)) ≡ concat eraseBytes (drop (i + 1) (take n rows))
+    pub erase-present : getD rows i d .present ≡ true → concat eraseBytes (drop i (take n rows))
+        ≡ concat eraseBytes (drop (i + 1) (take n rows))
     erase-present e = concat-front eraseBytes d h ∙ rw e
 
     pub reinstate-present : (v : List ℕ) → getD rows i d .present ≡ true
-        → concat (reinstateBytes v) (drop i (take n rows)) ≡ (getD rows i d .key ++ (leBytes 4 (getD rows i d .length) ++ valueOf v (getD rows i d))) ++ concat (reinstateBytes v) (drop (i + 1) (take n rows))
+        → concat (reinstateBytes v) (drop i (take n rows)) ≡ (getD rows i d .key
+        ++ (leBytes 4 (getD rows i d .length) ++ valueOf v (getD rows i d))) ++ concat (reinstateBytes v) (drop (i + 1) (take n rows))
     reinstate-present v e = concat-front (reinstateBytes v) d h ∙ rw e
 
-    pub reinstate-absent : (v : List ℕ) → getD rows i d .present ≡ false → concat (reinstateBytes v) (drop i (take n rows)) ≡ concat (reinstateBytes v) (drop (i + 1) (take n rows))
+    pub reinstate-absent : (v : List ℕ) → getD rows i d .present ≡ false
+        → concat (reinstateBytes v) (drop i (take n rows)) ≡ concat (reinstateBytes v) (drop (i + 1) (take n rows))
     reinstate-absent v e = concat-front (reinstateBytes v) d h ∙ rw e
 
     -- a row of which none is outside is inside
     pub inside : (v : List ℕ) → any (outside (length v)) (drop i (take n rows)) ≡ false
-        → (any (outside (length v)) (drop (i + 1) (take n rows)) ≡ false) × (getD rows i d .present ≡ true → getD rows i d .offset + getD rows i d .length ≤ length v)
+        → (any (outside (length v)) (drop (i + 1) (take n rows)) ≡ false)
+        × (getD rows i d .present ≡ true → getD rows i d .offset + getD rows i d .length ≤ length v)
     unfolding any
-    inside v e = go (outside (length v) (getD rows i d)) (any (outside (length v)) (drop (i + 1) (take n rows))) refl (rw (front rows n i d h l) at e)
+    inside v e = go (outside (length v) (getD rows i d)) (any (outside (length v)) (drop (i + 1) (take n rows))) refl
+        (rw (front rows n i d h l) at e)
       where
-        go : (b t : Bool) → outside (length v) (getD rows i d) ≡ b → b || t ≡ false → (t ≡ false) × (getD rows i d .present ≡ true → getD rows i d .offset + getD rows i d .length ≤ length v)
+        go : (b t : Bool) → outside (length v) (getD rows i d) ≡ b → b || t ≡ false
+            → (t ≡ false) × (getD rows i d .present ≡ true → getD rows i d .offset + getD rows i d .length ≤ length v)
         go true t q r = absurd (let z : _≡_ {A = ℕ} 0 1 = cc in omega arith)
         go false t q r = (r, λ y. ltb-false (length v) (getD rows i d .offset + getD rows i d .length) (rw y at q))
 
@@ -111,7 +120,8 @@ module _ (rows : List Row) (n i : ℕ) (l : n ≤ length rows) where
     keyed-before e k = rw before (e, k)
 
 -- how many bytes a present row takes
-pub present-length : (v : List ℕ) (r : Row) → length (r .key) ≡ 32 → r .offset + r .length ≤ length v → length (r .key ++ (leBytes 4 (r .length) ++ valueOf v r)) ≡ 36 + r .length
+pub present-length : (v : List ℕ) (r : Row) → length (r .key) ≡ 32 → r .offset + r .length ≤ length v
+    → length (r .key ++ (leBytes 4 (r .length) ++ valueOf v r)) ≡ 36 + r .length
 present-length v r k h =
     let d = length-drop (r .offset) v in
     let n : length (valueOf v r) ≡ r .length = length-take-le (r .length) (drop (r .offset) v) (omega arith) in
@@ -126,6 +136,7 @@ pub splice-three : (o : List ℕ) (at : ℕ) (k w v o1 o2 o3 : List ℕ) → len
 splice-three o at k w v o1 o2 o3 lk lw e1 e2 e3 =
     let n2 : at + 32 ≡ at + length k = omega arith in
     let n3 : at + 36 ≡ at + length k + length w = omega arith in
-    e3 ∙ ap (λ (x : List ℕ). splice (at + 36) v x) (e2 ∙ ap (λ (x : List ℕ). splice (at + 32) w x) e1 ∙ ap (λ (j : ℕ). splice j w (splice at k o)) n2)
+    e3 ∙ ap (λ (x : List ℕ). splice (at + 36) v x) (e2 ∙ ap (λ (x : List ℕ). splice (at + 32) w x) e1
+    ∙ ap (λ (j : ℕ). splice j w (splice at k o)) n2)
     ∙ ap (λ (j : ℕ). splice j v (splice (at + length k) w (splice at k o))) n3
     ∙ splice-join (at + length k) w v (splice at k o) ∙ splice-join at k (w ++ v) o

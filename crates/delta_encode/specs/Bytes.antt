@@ -67,7 +67,8 @@ sizeOf r = pick (r .present) (36 + r .length) 32
 
 -- the bytes of a delta: the erase count and keys, the reinstate count and rows
 unfoldable pub deltaBytes : List ℕ → List Row → List ℕ
-deltaBytes values ys = leBytes 4 (sum erases ys) ++ concat eraseBytes ys ++ leBytes 4 (sum reinstates ys) ++ concat (reinstateBytes values) ys
+deltaBytes values ys = leBytes 4 (sum erases ys) ++ concat eraseBytes ys ++ leBytes 4 (sum reinstates ys) ++ concat
+    (reinstateBytes values) ys
 
 -- a present row whose value does not lie inside the n bytes that are lent
 abbrev pub outside : ℕ → Row → Bool

@@ -90,7 +90,8 @@ fn measure(t: Table) -> Sizes
 fn put_row(out: &mut [u8], at: usize, key: [u8; 32], size: u32, values: &[u8], from: usize) -> usize
     requires { ⌜ at + (36 + size) ≤ length (now out) ⌝ }
     requires { ⌜ from + size ≤ length (now values) ⌝ }
-    ensures { λ r. ⌜ (r ≡ at + (36 + size)) × (now (out .exit) ≡ splice at (key ++ (leBytes 4 size ++ part from size (now (values .entry)))) (now (out .entry))) ⌝ }
+    ensures { λ r. ⌜ r ≡ at + (36 + size) ⌝ }
+    ensures { λ _. ⌜ now (out .exit) ≡ splice at (key ++ (leBytes 4 size ++ part from size (now (values .entry)))) (now (out .entry)) ⌝ }
 {
     let n = size as usize;
     lists::copy_into(out, at, &key);
@@ -103,7 +104,8 @@ fn put_row(out: &mut [u8], at: usize, key: [u8; 32], size: u32, values: &[u8], f
 fn put_erases(t: Table, out: &mut [u8], at: usize) -> usize
     requires { ⌜ t .count ≤ 256 ⌝ }
     requires { ⌜ at + length (concat eraseBytes (rowsOf t)) ≤ length (now out) ⌝ }
-    ensures { λ r. ⌜ (r ≡ at + length (concat eraseBytes (rowsOf t))) × (now (out .exit) ≡ splice at (concat eraseBytes (rowsOf t)) (now (out .entry))) ⌝ }
+    ensures { λ r. ⌜ r ≡ at + length (concat eraseBytes (rowsOf t)) ⌝ }
+    ensures { λ _. ⌜ now (out .exit) ≡ splice at (concat eraseBytes (rowsOf t)) (now (out .entry)) ⌝ }
 {
     let count = t.count;
     let mut p = at;
@@ -128,7 +130,8 @@ fn put_reinstates(t: Table, values: &[u8], out: &mut [u8], at: usize) -> usize
     requires { ⌜ t .count ≤ 256 ⌝ }
     requires { ⌜ any (outside (length (now values))) (rowsOf t) ≡ false ⌝ }
     requires { ⌜ at + length (concat (reinstateBytes (now values)) (rowsOf t)) ≤ length (now out) ⌝ }
-    ensures { λ r. ⌜ (r ≡ at + length (concat (reinstateBytes (now (values .entry))) (rowsOf t))) × (now (out .exit) ≡ splice at (concat (reinstateBytes (now (values .entry))) (rowsOf t)) (now (out .entry))) ⌝ }
+    ensures { λ r. ⌜ r ≡ at + length (concat (reinstateBytes (now (values .entry))) (rowsOf t)) ⌝ }
+    ensures { λ _. ⌜ now (out .exit) ≡ splice at (concat (reinstateBytes (now (values .entry))) (rowsOf t)) (now (out .entry)) ⌝ }
 {
     let count = t.count;
     let mut p = at;
@@ -150,7 +153,8 @@ fn put_reinstates(t: Table, values: &[u8], out: &mut [u8], at: usize) -> usize
 
 // The delta of a table whose values lie in `values`, written at the front of `out`; or the refusal, and `out` stays.
 pub fn encode(t: Table, values: &[u8], out: &mut [u8]) -> Encoded
-    ensures { λ r. ⌜ (r ≡ encodedOf 256 t (now (values .entry)) (now (out .entry))) × (now (out .exit) ≡ afterOf 256 t (now (values .entry)) (now (out .entry))) ⌝ }
+    ensures { λ r. ⌜ r ≡ encodedOf 256 t (now (values .entry)) (now (out .entry)) ⌝ }
+    ensures { λ _. ⌜ now (out .exit) ≡ afterOf 256 t (now (values .entry)) (now (out .entry)) ⌝ }
 {
     if 256 < t.count {
         return Encoded::Outside;

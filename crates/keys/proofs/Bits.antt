@@ -18,7 +18,8 @@ byte-bits zero x y hx hy e = omega arith
 byte-bits (suc n) x y hx hy e =
     let p : 2 ^ suc n ≡ 2 ^ n * 2 = pow-suc 2 n in
     let low = e 0 (omega arith) in
-    let high : x / 2 ≡ y / 2 = byte-bits n (x / 2) (y / 2) (omega arith) (omega arith) (λ j h. half x j ∙ e (suc j) (omega arith) ∙ sym (half y j)) in
+    let high : x / 2 ≡ y / 2 = byte-bits n (x / 2) (y / 2) (omega arith) (omega arith)
+    (λ j h. half x j ∙ e (suc j) (omega arith) ∙ sym (half y j)) in
     omega arith
   where
     half : (z j : ℕ) → z / 2 / 2 ^ j % 2 ≡ z / 2 ^ suc j % 2
@@ -31,27 +32,25 @@ bit-at a i j h =
     let r : (8 * i + j) % 8 ≡ j = omega arith in
     rw (q, r)
 
+-- keys compare the same exactly when all their bytes are equal
+pub keys-bytes-equal : (a b : List ℕ) → (compareKeys a b ≡ Same → a ≡ b) × (a ≡ b → compareKeys a b ≡ Same)
+keys-bytes-equal a b = (compare-same a b, λ e. rw e (compare-refl b))
+
 module _ (a b : List ℕ) (ka : Key a) (kb : Key b) where
-  -- keys whose 256 bits are the same are the same key
-  pub keys-bits-equal : ((i : ℕ) → i < 256 → bitOf a i ≡ bitOf b i) → compareKeys a b ≡ Same
-  keys-bits-equal e = rw same (compare-refl b)
-    where
-      byte : (i : ℕ) → i < length a → getD a i 0 ≡ getD b i 0
-      byte i h =
-          let long = ka .long in
-          byte-bits 8 (getD a i 0) (getD b i 0) (ka .bytes i) (kb .bytes i) (λ j g. sym (bit-at a i j g) ∙ e (8 * i + j) (omega arith) ∙ bit-at b i j g)
+  byte : ((i : ℕ) → i < 256 → bitOf a i ≡ bitOf b i) → (i : ℕ) → i < length a → getD a i 0 ≡ getD b i 0
+  byte e i h =
+      let long = ka .long in
+      byte-bits 8 (getD a i 0) (getD b i 0) (ka .bytes i) (kb .bytes i)
+      (λ j g. sym (bit-at a i j g) ∙ e (8 * i + j) (omega arith) ∙ bit-at b i j g)
 
-      same : a ≡ b
-      same = ext-getD 0 a b (ka .long ∙ sym (kb .long)) byte
-
-  -- keys that compare the same have the same 256 bits
-  pub keys-equal-bits : compareKeys a b ≡ Same → (i : ℕ) → i < 256 → bitOf a i ≡ bitOf b i
-  keys-equal-bits e i h = ap (λ (k : List ℕ). bitOf k i) (compare-same a b e)
+  -- keys compare the same exactly when all their 256 bits are
+  pub keys-bits-equal : (compareKeys a b ≡ Same → (i : ℕ) → i < 256 → bitOf a i ≡ bitOf b i)
+      × (((i : ℕ) → i < 256 → bitOf a i ≡ bitOf b i) → compareKeys a b ≡ Same)
+  keys-bits-equal = (
+    (λ e i h. ap (λ (k : List ℕ). bitOf k i) (compare-same a b e)),
+    λ e. keys-bytes-equal a b .1 (ext-getD 0 a b (ka .long ∙ sym (kb .long)) (byte e)),
+  )
 
   -- keys that differ in any one bit are not the same key
   pub keys-bit-differs : (i : ℕ) → (bitOf a i ≡ bitOf b i → ⊥) → compareKeys a b ≡ Same → ⊥
   keys-bit-differs i d e = d (ap (λ (k : List ℕ). bitOf k i) (compare-same a b e))
-
--- keys compare the same exactly when all their bytes are equal
-pub keys-bytes-equal : (a b : List ℕ) → a ≡ b → compareKeys a b ≡ Same
-keys-bytes-equal a b e = rw e (compare-refl b)

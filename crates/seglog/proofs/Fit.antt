@@ -14,6 +14,8 @@ use Rattle.seglog.specs.declared.Segment.{Segment}
 use Rattle.seglog.specs.declared.Log.{Log}
 use Rattle.seglog.specs.Log.{
   noSegment,
+  View,
+  logOf,
   viewOf,
   headOf,
   sizesOf,
@@ -25,11 +27,12 @@ use Rattle.seglog.specs.Log.{
   shapedOf,
   zerosOf,
   plainOf,
+  fitsOf,
   fittingOf,
 }
 use Rattle.seglog.specs.Shape.{SizesObey}
 use Rattle.seglog.proofs.Bools.{both-ways, and-both, both-and, not-so, same-test}
-use Rattle.seglog.proofs.View.{listed-length, listed-at, listed-head}
+use Rattle.seglog.proofs.View.{plain-log, view-log, listed-length, listed-at, listed-head}
 use Rattle.seglog.proofs.Slots.{Below}
 
 -- ---- K, C and M
@@ -145,6 +148,11 @@ pub record Fitting (l : Log) (n : ℕ) : Type 0 where
   pub apart : apartOf (take (l .count) (l .segs)) ≡ true
   pub ends : endsOf (l .start) (l .end) (take (l .count) (l .segs)) ≡ true
 
+-- the unused entries, and then the listed segments
+pub fitting-both : (l : Log) (area : List ℕ) → fittingOf l (length area) ≡ plainOf l && fitsOf (viewOf l) area
+unfolding fittingOf fitsOf
+fitting-both l area = refl
+
 module _ (l : Log) (n : ℕ) (long : length (l .segs) ≡ 64) where
   abbrev gs : List Segment
   gs = take (l .count) (l .segs)
@@ -236,6 +244,26 @@ module _ (l : Log) (n : ℕ) (long : length (l .segs) ≡ 64) where
         ends = sym e ∙ q;
       }))
       (λ q. e ∙ fitting-is q .ends)
+
+-- ---- a view's log
+
+module _ (v : View) (sizes : SizesObey (v .k) (v .c) (v .m)) (few : length (v .segs) ≤ v .k) where
+  -- a view that passes the tests is well shaped
+  pub view-shaped : chainOf (v .k) (v .c) (v .segs) ≡ true → apartOf (v .segs) ≡ true → endsOf (v .start) (v .end) (v .segs) ≡ true
+      → shapedOf v ≡ true
+  unfolding shapedOf
+  view-shaped chain apart ends =
+      simp (are-sizes (v .k) (v .c) (v .m) sizes, le-leb (length (v .segs)) (v .k) few, chain, apart, ends)
+
+  -- and its log fits an area of K x C bytes
+  pub view-fits : (n : ℕ) → shapedOf v ≡ true → n ≡ v .k * v .c → fittingOf (logOf v) n ≡ true
+  unfolding fittingOf
+  view-fits n h e =
+      simp (
+        plain-log v (omega (arith, sizes .few-slots)),
+        ap shapedOf (view-log v) ∙ h,
+        eq-eqb n (v .k * v .c) e,
+      )
 
 -- ---- the two ends
 

@@ -1,6 +1,9 @@
 pub mod Bools
 pub mod View
 pub mod Slots
-pub mod Rows
 pub mod Fit
+pub mod Rows
 pub mod New
+pub mod Chain
+pub mod Shape
+pub mod Unique

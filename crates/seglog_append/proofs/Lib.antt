@@ -1,2 +1,4 @@
 pub mod Free
 pub mod Ways
+pub mod Shaped
+pub mod Unique

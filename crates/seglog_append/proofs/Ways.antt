@@ -39,7 +39,7 @@ use Rattle.seglog.specs.Log.{
 use Rattle.seglog.proofs.Bools.{clash, both-ways, and-both, both-and}
 use Rattle.seglog.proofs.View.{zero-entry, log-view, entriesOf, set-head, set-new, ends-with, listed-length, listed-head}
 use Rattle.seglog.proofs.Slots.{pigeons}
-use Rattle.seglog.proofs.Fit.{Fitting, fitting-is, SegmentGood, chain-is, chain-below, sizes-room}
+use Rattle.seglog.proofs.Fit.{Fitting, fitting-both, fitting-is, SegmentGood, chain-is, chain-below, sizes-room}
 use Rattle.seglog_append.specs.declared.Appended.{Appended}
 use Rattle.seglog_append.specs.Append.{
   freeFrom,
@@ -75,6 +75,13 @@ unfolding nextId
 after-head [] = refl
 after-head (g ∷ gs) = sym (simp (ne-eqb (length (g ∷ gs)) 0 (λ z. omega arith)))
 
+-- a head is there where no new segment is wanted
+pub opens-no : (v : View) → opensOf v ≡ false → 0 < length (v .segs)
+unfolding opensOf
+opens-no v h =
+    by-test (eqb (length (v .segs)) 0) (λ e. clash (sym h ∙ simp e))
+    (λ e. let some = eqb-false (length (v .segs)) 0 e in omega arith)
+
 -- what is known once 2, 3 and 4 are passed
 pub record Past (l : Log) (area p : List ℕ) : Type 0 where
   pub long : length (l .segs) ≡ 64
@@ -100,16 +107,12 @@ module _ (l : Log) (area p : List ℕ) (long : length (l .segs) ≡ 64) where
   abbrev gs : List Segment
   gs = take (l .count) (l .segs)
 
-  both-tests : fittingOf l (length area) ≡ plainOf l && fitsOf a area
-  unfolding fittingOf fitsOf
-  both-tests = refl
-
   pub way-2 : fittingOf l (length area) ≡ false → appendLog l area p ≡ refused 2
   unfolding appendLog appendOf
   way-2 h =
       by-test (plainOf l)
       (λ e.
-      by-test (fitsOf a area) (λ f. both-ways _ (both-tests ∙ both-and (plainOf l) (fitsOf a area) e f) h) (λ f. simp (e, f)))
+      by-test (fitsOf a area) (λ f. both-ways _ (fitting-both l area ∙ both-and (plainOf l) (fitsOf a area) e f) h) (λ f. simp (e, f)))
       (λ e. simp e)
 
   module _ (fits : fittingOf l (length area) ≡ true) where
@@ -118,10 +121,10 @@ module _ (l : Log) (area p : List ℕ) (long : length (l .segs) ≡ 64) where
     fit = fitting-is l (length area) long fits
 
     pub plain : plainOf l ≡ true
-    plain = and-both (plainOf l) (fitsOf a area) (sym both-tests ∙ fits) .0
+    plain = and-both (plainOf l) (fitsOf a area) (sym (fitting-both l area) ∙ fits) .0
 
     pub fits-view : fitsOf a area ≡ true
-    fits-view = and-both (plainOf l) (fitsOf a area) (sym both-tests ∙ fits) .1
+    fits-view = and-both (plainOf l) (fitsOf a area) (sym (fitting-both l area) ∙ fits) .1
 
     few-listed : l .count ≤ 64
     few-listed = omega (arith, fit .few, fit .sizes .few-slots)
@@ -255,18 +258,11 @@ module _ (l : Log) (area p : List ℕ) (long : length (l .segs) ≡ 64) where
               ∙ set-new gs x (omega (arith, room, listed)));
         }
 
-    -- a head is there where no new segment is wanted
-    head-some : opensOf a ≡ false → 0 < l .count
-    unfolding opensOf
-    head-some h =
-        by-test (eqb (length gs) 0) (λ e. clash (sym h ∙ simp e))
-        (λ e. let some = eqb-false (length gs) 0 e in omega (arith, listed))
-
     -- the head
     pub spot-head : (g : Segment) → opensOf a ≡ false → g ≡ getD (l .segs) (l .count - 1) noSegment → Spot l g (l .count - 1)
     spot-head g o e =
-        let some = head-some o in
-        let ends = ends-with gs (omega (arith, listed)) in
+        let some = opens-no a o in
+        let ends = ends-with gs some in
         let is : g ≡ headOf gs = e ∙ head-at in
         let good : SegmentGood (l .k) (l .c) (headOf gs) =
         chain-last (l .k) (l .c) (frontOf gs) (headOf gs) (ap (chainOf (l .k) (l .c)) (sym ends) ∙ fit .chain) in

@@ -17,7 +17,8 @@ use Rattle.delta_encode.proofs.any_outside.Statement.{statement}
 use Rattle.delta_encode.proofs.any_outside.Tie as tie
 
 abbrev Inv-loop : tie.InvT-loop
-Inv-loop n t count limit i₀ i = (i ≤ count) × (length (t .rows) ≡ 256) × (any (outside n) (take count (t .rows)) ≡ any (outside n) (drop i (take count (t .rows))))
+Inv-loop n t count limit i₀ i = (i ≤ count) × (length (t .rows) ≡ 256)
+    × (any (outside n) (take count (t .rows)) ≡ any (outside n) (drop i (take count (t .rows))))
 
 abbrev μ-loop : tie.MeasureT-loop
 μ-loop n t count limit i₀ i = count - i
@@ -45,7 +46,8 @@ returns-2 : tie.Need-returns-2 Inv-loop μ-loop
 returns-2 c =
     let b = c .before .before .before .before .before .before .before .before in
     let a = b .before .args in
-    let y = outside-yes (a .n) (rowAt (a .t1) (b .loop .i)) (c .before .before .before .before .before .if1 .taken) (omega (arith, c .if3 .taken)) in
+    let y = outside-yes (a .n) (rowAt (a .t1) (b .loop .i)) (c .before .before .before .before .before .if1 .taken)
+    (omega (arith, c .if3 .taken)) in
     sym (b .loop .inv .2 ∙ any-yes (outside (a .n)) (a .t1 .rows) (a .t1 .count) (b .loop .i) (omega arith) (erased []) (omega arith) y)
 
 add-i : tie.Need-add-i Inv-loop μ-loop

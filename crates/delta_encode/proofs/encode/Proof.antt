@@ -15,19 +15,23 @@ use Rattle.delta_encode.proofs.encode.Tie as tie
 
 -- what holds once the rows are measured
 at-measure : (c : tie.After-measure)
-    → Known (c .before .before .before .before .before .before .before .before .before .before .args .values .now) (c .before .before .before .before .before .before .before .before .before .before .args .t) (c .before .before .before .arrange .result .table) (c .measure .result)
+    → Known (c .before .before .before .before .before .before .before .before .before .before .args .values .now)
+    (c .before .before .before .before .before .before .before .before .before .before .args .t)
+    (c .before .before .before .arrange .result .table) (c .measure .result)
 at-measure c =
     let r = c .before .before .before in
     let o = r .before .before in
     let a = o .before .before .before .before .before .args in
-    known (a .t) (r .arrange .result) (omega arith) (r .arrange .ensures) (c .before .before .if3 .left) (a .values .now) (c .measure .result)
+    known (a .t) (r .arrange .result) (omega arith) (r .arrange .ensures) (c .before .before .if3 .left) (a .values .now)
+    (c .measure .result)
     (sym (o .any-outside .ensures) ∙ r .before .if2 .left) (c .measure .ensures)
 
 -- and that the rows in order are few enough
 at-few : (c : tie.After-measure) → c .before .before .before .arrange .result .table .count ≤ 256
 at-few c =
     let r = c .before .before .before in
-    arranged-few (r .before .before .before .before .before .before .before .args .t) (r .arrange .result) (omega arith) (r .arrange .ensures)
+    arranged-few (r .before .before .before .before .before .before .before .args .t) (r .arrange .result) (omega arith)
+    (r .arrange .ensures)
     (c .before .before .if3 .left)
 
 returns : tie.Need-returns
@@ -135,8 +139,10 @@ returns-5 c =
     let q = e .put-erases .ensures .0 in
     let l = y .put-reinstates .ensures .0 in
     let g : length (bytesOf (a .t) (a .values .now)) ≤ length (a .out .now) = omega (arith, w .before .before .if4 .left) in
-    let f = four-parts (a .values .now) (a .out .now) ys (m .measure .result .erases) (m .measure .result .reinstates) (e .put-erases .result)
-    (y .put-reinstates .result) (w .write-u32 .last .0) (e .put-erases .last .1 .0) (z .write-u322 .last .0) (y .put-reinstates .last .1 .1 .0)
+    let f = four-parts (a .values .now) (a .out .now) ys (m .measure .result .erases) (m .measure .result .reinstates)
+    (e .put-erases .result)
+    (y .put-reinstates .result) (w .write-u32 .last .0) (e .put-erases .last .1 .0) (z .write-u322 .last .0)
+    (y .put-reinstates .last .1 .1 .0)
     (m .measure .ensures .erased) (m .measure .ensures .kept) q (w .write-u32 .ensures) (e .put-erases .ensures .1) (z .write-u322 .ensures)
     (y .put-reinstates .ensures .1) in
     ends-written 256 (a .t) (a .values .now) (a .out .now) (omega arith) (sym (o .any-outside .ensures) ∙ r .before .if2 .left)

@@ -43,7 +43,8 @@ loop-again c =
       omega arith,
       b .loop .inv .1,
       subst (λ r. Writing (a .out .now) (a .at) (concat eraseBytes (rowsOf (a .t1))) (b .loop .out) (b .loop .p) r)
-          (erase-present (a .t1 .rows) (a .t1 .count) (b .loop .i) (omega arith) (erased []) (omega arith) (c .if1 .taken)) (b .loop .inv .2),
+          (erase-present (a .t1 .rows) (a .t1 .count) (b .loop .i) (omega arith) (erased []) (omega arith) (c .if1 .taken))
+          (b .loop .inv .2),
     )
 
 key-size-requires : tie.Need-key-size-requires Inv-loop μ-loop
@@ -62,7 +63,8 @@ add-p c =
     let a = b .before .before .args in
     let h : length (rowAt (a .t1) (b .loop .i) .key) ≡ 32 = n .key-size .ensures .1 in
     let k : n .key-size .result ≡ 32 = n .key-size .ensures .0 in
-    let r = writing-room (a .out .now) (a .at) (concat eraseBytes (rowsOf (a .t1))) (b .loop .out) (b .loop .p) (concat eraseBytes (drop (b .loop .i) (rowsOf (a .t1)))) (b .loop .inv .2)
+    let r = writing-room (a .out .now) (a .at) (concat eraseBytes (rowsOf (a .t1))) (b .loop .out) (b .loop .p)
+    (concat eraseBytes (drop (b .loop .i) (rowsOf (a .t1)))) (b .loop .inv .2)
     (rowAt (a .t1) (b .loop .i) .key) (concat eraseBytes (drop (b .loop .i + 1) (rowsOf (a .t1)))) (b .before .before .pre .1)
     (erase-absent (a .t1 .rows) (a .t1 .count) (b .loop .i) (omega arith) (erased []) (omega arith) (n .before .before .if1 .left)) in
     let l = b .loop .inv .2 .long in
@@ -84,8 +86,10 @@ loop-again-2 c =
     let k : n .key-size .result ≡ 32 = n .key-size .ensures .0 in (
       omega arith,
       b .loop .inv .1,
-      writing-step (a .out .now) (a .at) (concat eraseBytes (rowsOf (a .t1))) (b .loop .out) (b .loop .p) (concat eraseBytes (drop (b .loop .i) (rowsOf (a .t1)))) (b .loop .inv .2)
-          (rowAt (a .t1) (b .loop .i) .key) (concat eraseBytes (drop (b .loop .i + 1) (rowsOf (a .t1)))) (o .copy-into .last .0) (b .loop .p + n .key-size .result)
+      writing-step (a .out .now) (a .at) (concat eraseBytes (rowsOf (a .t1))) (b .loop .out) (b .loop .p)
+          (concat eraseBytes (drop (b .loop .i) (rowsOf (a .t1)))) (b .loop .inv .2)
+          (rowAt (a .t1) (b .loop .i) .key) (concat eraseBytes (drop (b .loop .i + 1) (rowsOf (a .t1)))) (o .copy-into .last .0)
+          (b .loop .p + n .key-size .result)
           (erase-absent (a .t1 .rows) (a .t1 .count) (b .loop .i) (omega arith) (erased []) (omega arith) (n .before .before .if1 .left))
           (o .copy-into .ensures) (omega arith),
     )

@@ -19,7 +19,8 @@ use Rattle.delta_encode.proofs.put_reinstates.Tie as tie
 abbrev Inv-loop : tie.InvT-loop
 Inv-loop values out₀ at t count p₀ i₀ out p i =
     (i ≤ count) × (length (t .rows) ≡ 256) × (any (outside (length values)) (drop i (take count (t .rows))) ≡ false)
-    × Writing out₀ at (concat (reinstateBytes values) (take count (t .rows))) out p (concat (reinstateBytes values) (drop i (take count (t .rows))))
+    × Writing out₀ at (concat (reinstateBytes values) (take count (t .rows))) out p
+    (concat (reinstateBytes values) (drop i (take count (t .rows))))
 
 abbrev μ-loop : tie.MeasureT-loop
 μ-loop values out₀ at t count p₀ i₀ out p i = count - i
@@ -44,8 +45,10 @@ put-row-requires c κs =
     let y = c .before .before .before .if1 .taken in
     let n = inside (a .t1 .rows) (a .t1 .count) (b .loop .i) (omega arith) (erased []) (omega arith) (a .values .now) (b .loop .inv .2) in
     let k = present-length (a .values .now) row (c .before .key-size .ensures .1) (n .1 y) in
-    let r = writing-room (a .out .now) (a .at) (concat (reinstateBytes (a .values .now)) (rowsOf (a .t1))) (b .loop .out) (b .loop .p) (concat (reinstateBytes (a .values .now)) (drop (b .loop .i) (rowsOf (a .t1)))) (b .loop .inv .3)
-    (row .key ++ (leBytes 4 (row .length) ++ valueOf (a .values .now) row)) (concat (reinstateBytes (a .values .now)) (drop (b .loop .i + 1) (rowsOf (a .t1)))) (b .before .before .before .pre .1 .1)
+    let r = writing-room (a .out .now) (a .at) (concat (reinstateBytes (a .values .now)) (rowsOf (a .t1))) (b .loop .out) (b .loop .p)
+    (concat (reinstateBytes (a .values .now)) (drop (b .loop .i) (rowsOf (a .t1)))) (b .loop .inv .3)
+    (row .key ++ (leBytes 4 (row .length) ++ valueOf (a .values .now) row))
+    (concat (reinstateBytes (a .values .now)) (drop (b .loop .i + 1) (rowsOf (a .t1)))) (b .before .before .before .pre .1 .1)
     (reinstate-present (a .t1 .rows) (a .t1 .count) (b .loop .i) (omega arith) (erased []) (omega arith) (a .values .now) y) in
     (omega arith, n .1 y)
 
@@ -69,8 +72,10 @@ loop-again c =
       omega arith,
       b .loop .inv .1,
       s .0,
-      writing-step (a .out .now) (a .at) (concat (reinstateBytes (a .values .now)) (rowsOf (a .t1))) (b .loop .out) (b .loop .p) (concat (reinstateBytes (a .values .now)) (drop (b .loop .i) (rowsOf (a .t1)))) (b .loop .inv .3)
-          (row .key ++ (leBytes 4 (row .length) ++ valueOf (a .values .now) row)) (concat (reinstateBytes (a .values .now)) (drop (b .loop .i + 1) (rowsOf (a .t1)))) (w .put-row .last .0) (w .put-row .result)
+      writing-step (a .out .now) (a .at) (concat (reinstateBytes (a .values .now)) (rowsOf (a .t1))) (b .loop .out) (b .loop .p)
+          (concat (reinstateBytes (a .values .now)) (drop (b .loop .i) (rowsOf (a .t1)))) (b .loop .inv .3)
+          (row .key ++ (leBytes 4 (row .length) ++ valueOf (a .values .now) row))
+          (concat (reinstateBytes (a .values .now)) (drop (b .loop .i + 1) (rowsOf (a .t1)))) (w .put-row .last .0) (w .put-row .result)
           (reinstate-present (a .t1 .rows) (a .t1 .count) (b .loop .i) (omega arith) (erased []) (omega arith) (a .values .now) y)
           (w .put-row .ensures .1) (omega arith),
     )
@@ -90,7 +95,8 @@ loop-again-2 c =
       b .loop .inv .1,
       s .0,
       subst (λ r. Writing (a .out .now) (a .at) (concat (reinstateBytes (a .values .now)) (rowsOf (a .t1))) (b .loop .out) (b .loop .p) r)
-          (reinstate-absent (a .t1 .rows) (a .t1 .count) (b .loop .i) (omega arith) (erased []) (omega arith) (a .values .now) (c .if1 .left)) (b .loop .inv .3),
+          (reinstate-absent (a .t1 .rows) (a .t1 .count) (b .loop .i) (omega arith) (erased []) (omega arith) (a .values .now)
+          (c .if1 .left)) (b .loop .inv .3),
     )
 
 same-length : tie.Need-same-length Inv-loop μ-loop
@@ -100,7 +106,8 @@ returns : tie.Need-returns Inv-loop μ-loop
 returns c =
     let b = c .before in
     let a = b .before .before .before .args in
-    writing-end (a .out .now) (a .at) (concat (reinstateBytes (a .values .now)) (rowsOf (a .t1))) (b .loop .out) (b .loop .p) (concat (reinstateBytes (a .values .now)) (drop (b .loop .i) (rowsOf (a .t1)))) (b .loop .inv .3)
+    writing-end (a .out .now) (a .at) (concat (reinstateBytes (a .values .now)) (rowsOf (a .t1))) (b .loop .out) (b .loop .p)
+    (concat (reinstateBytes (a .values .now)) (drop (b .loop .i) (rowsOf (a .t1)))) (b .loop .inv .3)
     (concat-end (a .t1 .rows) (a .t1 .count) (b .loop .i) (omega arith) (reinstateBytes (a .values .now)) (c .loop-test .left))
 
 pub put-reinstates-spec : {M : Type 1} → statement M

@@ -64,7 +64,8 @@ returns c =
     let same : a .from + a .size - a .from ≡ a .size = omega arith in (
       omega arith,
       splice-three (a .out .now) (a .at) (a .t3) (leBytes 4 (a .size)) (part (a .from) (a .size) (a .values .now))
-          (front .copy-into .last .0) (number .write-u32 .last .0) (value .copy-into2 .last .0) (key-long (front .before .before .before .before .before)) (le-bytes-length 4 (a .size))
+          (front .copy-into .last .0) (number .write-u32 .last .0) (value .copy-into2 .last .0)
+          (key-long (front .before .before .before .before .before)) (le-bytes-length 4 (a .size))
           (front .copy-into .ensures) (number .write-u32 .ensures) (value .copy-into2 .ensures ∙
           ap (λ (n : ℕ). splice (a .at + 36) (part (a .from) n (a .values .now)) (number .write-u32 .last .0)) same),
     )
