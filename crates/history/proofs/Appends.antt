@@ -3,14 +3,14 @@
 use mathlib.Core.Bool.{not, true, false, Bool, _&&_}
 use mathlib.Core.List.{List, _++_, _∷_, []}
 use mathlib.Core.Path.{ap, _≡_, sym, _∙_, refl, subst}
-use Prim.Native.Nat.{ℕ, _≤_, min, _+_, _-_, suc, _<_, _^_, _%_, _*_}
+use Prim.Native.Nat.{ℕ, _≤_, _+_, _-_, suc, _<_, _^_, _%_, _*_}
 use native.Mathlib.Omega.{arith}
 use lib.Dec.{eqb, leb, ltb}
 use lib.ListN.{length}
 use borrow.Author.Tests.{ne-eqb, eqb-false, ltb-false}
 use Rattle.lists.proofs.Cases.{pick-either}
 use Rattle.lists.proofs.Splice.{splice-length}
-use Rattle.lists.specs.Choice.{pick, first}
+use Rattle.lists.specs.Choice.{pick}
 use Rattle.record.proofs.Record.{record-length}
 use Rattle.record.specs.Record.{maxPayload, recordRoom, recordBytes}
 use Rattle.seglog.proofs.Bools.{clash}
@@ -19,7 +19,22 @@ use Rattle.seglog.proofs.View.{ends-with}
 use Rattle.seglog.specs.Log.{View, freshIn, apartOf, headOf, frontOf, fitsOf}
 use Rattle.seglog.specs.declared.Segment.{Segment}
 use Rattle.seglog_append.proofs.Free.{free-most, free-good}
-use Rattle.seglog_append.specs.Append.{Appending, refused, appended, startAfter, grownOf, nextId, opensOf, lowestFree, freshOf, beforeOf, targetOf, withRecord, recordInto, appendOf}
+use Rattle.seglog_append.specs.Append.{
+  Appending,
+  refused,
+  appended,
+  startAfter,
+  grownOf,
+  nextId,
+  opensOf,
+  lowestFree,
+  freshOf,
+  beforeOf,
+  targetOf,
+  withRecord,
+  recordInto,
+  appendOf,
+}
 use Rattle.history.specs.History.{noted}
 use Rattle.history.specs.Recorded.{recordsFrom}
 use Rattle.history.proofs.Chain.{Chain, chain-ends, chain-join, chain-keep}

@@ -5,12 +5,10 @@ use mathlib.Core.List.{List, _∷_, []}
 use mathlib.Core.Path.{_≡_, _∙_, refl, subst, sym, ap}
 use Prim.Native.Nat.{ℕ, _<_, _≤_, _*_}
 use native.Mathlib.Omega.{arith}
-use Rattle.page.proofs.Page.{whole}
 use Rattle.seglog.specs.Log.{View}
 use Rattle.seglog.specs.declared.Log.{Log}
 use Rattle.seglog.specs.declared.Segment.{Segment}
 use Rattle.seglog_prune.specs.Prune.{pruneRecentOf, pruned}
-use Rattle.recovery_walk.specs.Images.{behind}
 use Rattle.recovery_walk.specs.declared.ImageRow.{ImageRow}
 use Rattle.recovery.specs.Recovery.{recovered}
 use Rattle.history.specs.Corollaries.{PrunesInEitherOrder}

@@ -4,7 +4,7 @@ use mathlib.Core.Bool.{true, false, Bool, _&&_}
 use mathlib.Core.List.{List, _++_, _∷_, []}
 use mathlib.Core.Logic.{inl, inr}
 use mathlib.Core.Path.{_≡_, refl, ap, _∙_, subst, sym}
-use Prim.Native.Nat.{ℕ, _+_, min, _≤_, _<_}
+use Prim.Native.Nat.{ℕ, _+_, _≤_, _<_}
 use native.Mathlib.Omega.{arith}
 use lib.Dec.{leb, ltb}
 use borrow.Author.Tests.{lt-leb, le-leb, le-ltb, ltb-false, ltb-true}

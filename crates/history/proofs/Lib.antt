@@ -24,3 +24,4 @@ pub mod Whole
 pub mod Unchanged
 pub mod Twice
 pub mod EitherOrder
+pub mod Example

@@ -3,7 +3,7 @@
 use mathlib.Core.Bool.{not, false, true, Bool}
 use mathlib.Core.List.{List, [], _∷_, _++_, append-assoc}
 use mathlib.Core.Path.{sym, ap, _∙_, _≡_, refl, subst}
-use Prim.Native.Nat.{ℕ, _≤_, _<_, _-_, min, _+_, _*_}
+use Prim.Native.Nat.{ℕ, _≤_, _<_, _-_, _+_, _*_}
 use native.Mathlib.Omega.{arith}
 use lib.Dec.{eqb, ltb}
 use lib.ListN.{length, drop, take}

@@ -10,7 +10,6 @@ use Rattle.seglog.specs.declared.Log.{Log}
 use Rattle.seglog.specs.declared.Segment.{Segment}
 use Rattle.seglog_append.specs.Append.{Appending, appendAnswer, appendOf}
 use Rattle.seglog_prune.specs.Prune.{imageIn, Pruning, pruneAnswer, pruneOldestOf, pruneRecentOf}
-use Rattle.recovery_walk.specs.Images.{images}
 use Rattle.history.specs.History.{run, Held, begun, lastUnder, append, Call, refusalOf, oldest, recent}
 use Rattle.history.specs.Recorded.{Recorded, recordsFrom, RunsAreRecorded, RunsNeverMeet2Or10}
 use Rattle.history.proofs.Appends.{AppendKeeps, append-keeps}

@@ -18,7 +18,24 @@ use Rattle.seglog.specs.declared.Log.{Log}
 use Rattle.seglog_append.specs.Append.{Appending, appended, appendLog, appendOf, appendAnswer}
 use Rattle.seglog_prune.specs.Prune.{Pruning, pruned, oldestLog, pruneOldestOf, recentLog, pruneRecentOf}
 use Rattle.recovery_walk.specs.Images.{after}
-use Rattle.history.specs.History.{Held, append, noted, run, oldest, recent, afterAppend, heard, afterPrune, step, heardCall, Call, told, begun, nothing, lastUnder}
+use Rattle.history.specs.History.{
+  Held,
+  append,
+  noted,
+  run,
+  oldest,
+  recent,
+  afterAppend,
+  heard,
+  afterPrune,
+  step,
+  heardCall,
+  Call,
+  told,
+  begun,
+  nothing,
+  lastUnder,
+}
 use Rattle.history.proofs.Appends.{AppendKeeps, append-keeps}
 use Rattle.history.proofs.Invariant.{Holds, empty-holds}
 use Rattle.history.proofs.Prunes.{PruneKeeps, oldest-keeps, recent-keeps}

@@ -3,7 +3,7 @@
 use mathlib.Core.Bool.{true, false}
 use mathlib.Core.List.{List, _++_, _∷_, []}
 use mathlib.Core.Path.{_≡_, subst, sym, _∙_, ap, refl}
-use Prim.Native.Nat.{ℕ, _*_, _-_, _<_, _≤_, _+_, min}
+use Prim.Native.Nat.{ℕ, _*_, _-_, _<_, _≤_, _+_}
 use native.Mathlib.Omega.{arith}
 use lib.ListN.{length}
 use borrow.Author.Tests.{lt-ltb, le-ltb, le-leb, eq-eqb, ne-eqb}
@@ -27,7 +27,18 @@ use Rattle.history.proofs.Invariant.{Holds, some-live}
 use Rattle.history.proofs.Kept.{Cutting, cut-all}
 use Rattle.history.proofs.Later.{After, first-same, Grows, ended-grows}
 use Rattle.history.proofs.OwnRows.{has-good, rising-rows, length-rows, inside-rows, apart-rows, lowest-rows, next-rows}
-use Rattle.history.proofs.Prunes.{Inner, live-low, oldest-holds, prune-inner, New, closedBy, at-new, endedView, recent-is, ended-holds}
+use Rattle.history.proofs.Prunes.{
+  Inner,
+  live-low,
+  oldest-holds,
+  prune-inner,
+  New,
+  closedBy,
+  at-new,
+  endedView,
+  recent-is,
+  ended-holds,
+}
 use Rattle.history.proofs.Records.{from-agree, from-front, splice-whole}
 use Rattle.history.proofs.Runs.{log-fitting}
 use Rattle.history.proofs.Same.{chain-same, old-rows}

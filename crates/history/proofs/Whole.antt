@@ -3,7 +3,7 @@
 use mathlib.Core.Bool.{true}
 use mathlib.Core.List.{List, [], _∷_, _++_}
 use mathlib.Core.Path.{_≡_, refl, ap, _∙_, sym, subst}
-use Prim.Native.Nat.{_-_, ℕ, _+_, min, _<_, _≤_, _*_, _/_}
+use Prim.Native.Nat.{_-_, ℕ, _+_, _<_, _≤_, _*_, _/_}
 use native.Mathlib.Omega.{arith}
 use lib.Dec.{eqb}
 use lib.ListN.{length, length-append}

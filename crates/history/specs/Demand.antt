@@ -9,7 +9,6 @@ use Rattle.seglog.specs.declared.Segment.{Segment}
 use Rattle.seglog.specs.declared.Log.{Log}
 use Rattle.seglog.specs.New.{newOf}
 use Rattle.recovery_walk.specs.declared.ImageRow.{ImageRow}
-use Rattle.recovery.specs.declared.Recovered.{Recovered}
 use Rattle.recovery.specs.Recovery.{Recovery, recoveryOf, recoveryAnswer, recoveryArea, recoveryIndex}
 use Rattle.payload.specs.declared.RowAnswer.{RowAnswer}
 use Rattle.payload.specs.declared.RowAnswer.the-variants.{Good}

@@ -1,13 +1,11 @@
 -- Calls of append and of the prunes, what a caller holds after a run of them, and the payload that was last appended under an id, read
 -- off the calls and their answers alone. Everything is said of the answers that the contracts of the functions fix. Assumes nothing.
 use mathlib.Core.List.{List, [], _∷_}
-use mathlib.Core.Bool.{Bool}
 use Prim.Native.Nat.{ℕ}
 use lib.ListN.{length}
 use lib.Dec.{eqb}
 use Rattle.lists.specs.Choice.{pick}
 use Rattle.seglog.specs.declared.Log.{Log}
-use Rattle.seglog.specs.declared.Logged.{Logged}
 use Rattle.seglog.specs.New.{newOf}
 use Rattle.seglog_append.specs.declared.Appended.{Appended}
 use Rattle.seglog_append.specs.Append.{Appending, appendLog, appendAnswer, appendArea}
