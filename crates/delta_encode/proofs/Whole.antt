@@ -149,6 +149,7 @@ module _ (t : Table) (a : Arranged) (h : t .count ≤ 256) (e : a ≡ arrangedOf
       let n = length-take (t .count) (t .rows) in
       omega arith
 
+  -- what the order and the measures tell together
   pub known : (v : List ℕ) (m : Sizes) → any (outside (length v)) (rowsOf t) ≡ false → Sized (rowsOf (a .table)) m → Known v t (a .table) m
   known v m w z =
       let q : rowsOf (a .table) ≡ sortBy rowKey (rowsOf t) = ap rowsOf (arranged-table (rowsOf t) a e d)
