@@ -82,10 +82,12 @@ module _ (at : ℕ → Got) (before : List Row) (n start : ℕ) where
         g .same next ∙ ap (λ (k : ℕ). prepend (rowsOf u) (group at k p next)) f
 
 module _ (s : List ℕ) (p : ℕ) where
+  -- too little for a key
   pub erase-short : length s < p + 32 → eraseAt s p ≡ short
   unfolding eraseAt
   erase-short h = rw (lt-leb (p + 32) (length s) h)
 
+  -- a key
   pub erase-got : p + 32 ≤ length s → (key : List ℕ) → key ≡ part p 32 s → eraseAt s p ≡ got (erased key) (p + 32)
   unfolding eraseAt
   erase-got h key e = rw (le-leb (p + 32) (length s) h, ← e)
@@ -116,6 +118,7 @@ module _ (s : List ℕ) (p : ℕ) where
     unfolding reinstateAt
     reinstate-cut h = rw (is, lt-leb (p + (36 + n)) (length s) (omega arith))
 
+    -- a key, a length and a value
     pub reinstate-got : p + 36 + n ≤ length s → (key : List ℕ) → key ≡ part p 32 s
         → reinstateAt s p ≡ got (reinstated key (p + 36) n) (p + 36 + n)
     unfolding reinstateAt

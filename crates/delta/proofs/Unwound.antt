@@ -50,6 +50,7 @@ pub record Good (most : ℕ) (s : List ℕ) (n : ℕ) : Type 0 where
   pub end : endOf (reading most s) ≡ Consumed n
   pub is : decodedOf most s ≡ record { answer = Consumed n; table = tableOf (sortBy rowKey (rowsIn (reading most s))) }
 
+-- every accepted answer says so
 pub accepted-good : (most : ℕ) (s : List ℕ) (n : ℕ) → decodedOf most s .answer ≡ Consumed n → Good most s n
 accepted-good most s n e =
     go (clash rowKey xs) refl (endOf (reading most s)) refl (sym (ap (λ (d : Decoded). d .answer) d) ∙ e)
@@ -75,6 +76,7 @@ accepted-good most s n e =
 
 -- what stands at a position, by whether enough does
 module _ (s : List ℕ) (p : ℕ) where
+  -- a row of the erase group that was got
   pub erase-is : (r : Row) (q : ℕ) → eraseAt s p ≡ got r q → (p + 32 ≤ length s) × (erased (part p 32 s) ≡ r) × (p + 32 ≡ q)
   unfolding eraseAt
   erase-is r q e = go (standAt 32 s p) refl e
@@ -87,6 +89,7 @@ module _ (s : List ℕ) (p : ℕ) where
   abbrev size : ℕ
   size = leAt 4 s (p + 32)
 
+  -- a row of the reinstate group that was got
   pub reinstate-is : (r : Row) (q : ℕ) → reinstateAt s p ≡ got r q
       → (p + (36 + size) ≤ length s) × (reinstated (part p 32 s) (p + 36) size ≡ r) × (p + (36 + size) ≡ q)
   unfolding reinstateAt

@@ -27,6 +27,7 @@ use Rattle.delta.specs.declared.Decoding.{Decoding}
 use Rattle.delta.specs.declared.Decoding.the-variants.{Consumed, EndsEarly, OverLimit, Duplicate}
 use Rattle.delta.proofs.Decoding as DecodingType
 use Rattle.delta.proofs.Plain.{table-plain}
+use Rattle.delta.proofs.Arranging.{arranged-clash, arranged-table}
 
 any-append : {A : Type 0} (p : A → Bool) (xs ys : List A) → any p (xs ++ ys) ≡ any p xs || any p ys
 unfolding any
@@ -178,31 +179,19 @@ module _ (most : ℕ) (s : List ℕ) (w : U32At) (e : w ≡ u32At s 0) where
 
 -- what `decode` answers, by the rows put in order
 module _ (most : ℕ) (s : List ℕ) (r : Read) (w : WholeRead most s r) (a : Arranged) (q : a ≡ arrangedOf (rowsOf (r .table))) where
-  told : (b : Bool) → clash rowKey (rowsOf (r .table)) ≡ b → (a .twins ≡ b)
-      × (b ≡ false → a .table ≡ tableOf (sortBy rowKey (rowsOf (r .table))))
-  told true c =
-      let z : a ≡ record { twins = true; table = tableOf [] } = q ∙ rw c in
-      (ap (λ (x : Arranged). x .twins) z, λ f. absurd (let o : _≡_ {A = ℕ} 0 1 = cc in omega arith))
-  told false c =
-      let z : a ≡ record { twins = false; table = tableOf (sortBy rowKey (rowsOf (r .table))) } = q ∙ rw c in
-      (ap (λ (x : Arranged). x .twins) z, λ f. ap (λ (x : Arranged). x .table) z)
-
-  same : a .twins ≡ clash rowKey (rowsOf (r .table))
-  same = told (clash rowKey (rowsOf (r .table))) refl .0
-
   whole : decodedOf most s ≡ pick (clash rowKey (rowsOf (r .table))) (refusedOf Duplicate) (answered (r .answer) (rowsOf (r .table)))
   whole = decoded-read most s (rowsOf (r .table)) (r .answer) (w .same)
 
   -- a key twice
   pub decode-twins : a .twins ≡ true → decodedOf most s ≡ refusedOf Duplicate
   decode-twins t =
-      let c : clash rowKey (rowsOf (r .table)) ≡ true = sym same ∙ t in
+      let c : clash rowKey (rowsOf (r .table)) ≡ true = arranged-clash (rowsOf (r .table)) a q ∙ t in
       whole ∙ rw c
 
   module _ (t : a .twins ≡ false) where
     once : decodedOf most s ≡ answered (r .answer) (rowsOf (r .table))
     once =
-        let c : clash rowKey (rowsOf (r .table)) ≡ false = sym same ∙ t in
+        let c : clash rowKey (rowsOf (r .table)) ≡ false = arranged-clash (rowsOf (r .table)) a q ∙ t in
         whole ∙ rw c
 
     -- another fault
@@ -213,6 +202,5 @@ module _ (most : ℕ) (s : List ℕ) (r : Read) (w : WholeRead most s r) (a : Ar
     pub decode-good : (n : ℕ) → r .answer ≡ Consumed n → _≡_ {A = Decoded} (record { answer = Consumed n; table = a .table })
         (decodedOf most s)
     decode-good n e =
-        let c : a .table ≡ tableOf (sortBy rowKey (rowsOf (r .table))) =
-        told (clash rowKey (rowsOf (r .table))) refl .1 (sym same ∙ t) in
+        let c : a .table ≡ tableOf (sortBy rowKey (rowsOf (r .table))) = arranged-table (rowsOf (r .table)) a q t in
         (λ i. record { answer = Consumed n; table = c i }) ∙ sym (once ∙ ap (λ (d : Decoding). answered d (rowsOf (r .table))) e)

@@ -210,6 +210,7 @@ pub record Accepted (t : Table) (v out : List ℕ) (n : ℕ) : Type 0 where
   pub room : length (bytesOf t v) ≤ length out
   pub size : n ≡ length (bytesOf t v)
 
+-- every accepted table has it
 pub accepted-by : (t : Table) (v out : List ℕ) (n : ℕ) → encodedOf 256 t v out ≡ Written n → Accepted t v out n
 unfolding encodedOf
 accepted-by t v out n e = go (ltb 256 (t .count)) refl (any (outside (length v)) (rowsOf t)) refl (clash rowKey (rowsOf t)) refl

@@ -57,6 +57,7 @@ deltaSpecimens =
     ∷ (decodingNumber (decodedOf 256 (leBytes 4 1 ++ (1 ∷ 2 ∷ [])) .answer) ≡ 40)
     ∷ []
 
+-- all of them hold
 pub delta-specimens : All deltaSpecimens
 unfolding leAt leBytes u32At compareKeys rank any sortBy clash eraseAt reinstateAt group reinstates reading walk concat sum deltaBytes
     encodedOf splice

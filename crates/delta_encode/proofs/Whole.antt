@@ -17,6 +17,7 @@ use Rattle.keys.specs.Sort.{sortBy, clash, any}
 use Rattle.keys.proofs.Sorting.{perm-any, perm-length, sort-perm}
 use Rattle.delta.specs.Table.{rowKey, rowsOf, tableOf, arrangedOf}
 use Rattle.delta.proofs.Plain.{rows-table}
+use Rattle.delta.proofs.Arranging.{arranged-clash, arranged-table}
 use Rattle.delta.specs.declared.Row.{Row}
 use Rattle.delta.specs.declared.Table.{Table}
 use Rattle.delta.specs.declared.Arranged.{Arranged}
@@ -115,24 +116,6 @@ splice-four o a b c d o1 o2 o3 o4 la lc e1 e2 e3 e4 =
     e4 ∙ ap (λ (x : List ℕ). splice (4 + length b + 4) d x) f3 ∙ ap (λ (j : ℕ). splice j d (splice 0 (a ++ b ++ c) o)) n4
     ∙ splice-join 0 (a ++ b ++ c) d o
 
--- what putting the rows in order tells
-module _ (xs : List Row) (a : Arranged) (e : a ≡ arrangedOf xs) where
-  told : (b : Bool) → clash rowKey xs ≡ b → (a .twins ≡ b) × (b ≡ false → a .table ≡ tableOf (sortBy rowKey xs))
-  told true c =
-      let z : a ≡ record { twins = true; table = tableOf [] } = e ∙ rw c in
-      (ap (λ (x : Arranged). x .twins) z, λ f. absurd (let o : _≡_ {A = ℕ} 0 1 = cc in omega arith))
-  told false c =
-      let z : a ≡ record { twins = false; table = tableOf (sortBy rowKey xs) } = e ∙ rw c in
-      (ap (λ (x : Arranged). x .twins) z, λ f. ap (λ (x : Arranged). x .table) z)
-
-  -- whether two rows have one key
-  pub arranged-clash : clash rowKey xs ≡ a .twins
-  arranged-clash = sym (told (clash rowKey xs) refl .0)
-
-  -- else the rows in order
-  pub arranged-table : a .twins ≡ false → a .table ≡ tableOf (sortBy rowKey xs)
-  arranged-table f = told (clash rowKey xs) refl .1 (arranged-clash ∙ f)
-
 -- what is known once the rows are in order and measured
 pub record Known (v : List ℕ) (t u : Table) (m : Sizes) : Type 0 where
   pub none : any (outside (length v)) (rowsOf u) ≡ false
@@ -149,6 +132,7 @@ module _ (t : Table) (a : Arranged) (h : t .count ≤ 256) (e : a ≡ arrangedOf
       let n = length-take (t .count) (t .rows) in
       omega arith
 
+  -- what the order and the measures tell together
   pub known : (v : List ℕ) (m : Sizes) → any (outside (length v)) (rowsOf t) ≡ false → Sized (rowsOf (a .table)) m → Known v t (a .table) m
   known v m w z =
       let q : rowsOf (a .table) ≡ sortBy rowKey (rowsOf t) = ap rowsOf (arranged-table (rowsOf t) a e d)

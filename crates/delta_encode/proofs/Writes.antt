@@ -58,36 +58,44 @@ module _ (o : List ℕ) (at : ℕ) (whole out : List ℕ) (p : ℕ) (rest : List
       (omega arith, sym (w .same ∙ ap (λ (x : List ℕ). splice p x out) e ∙ splice-none p out))
 
 module _ (rows : List Row) (n i : ℕ) (l : n ≤ length rows) where
+  -- the bytes from i on begin with those of the row at i
   pub concat-front : (f : Row → List ℕ) (d : Row) → i < n → concat f (drop i (take n rows))
       ≡ f (getD rows i d) ++ concat f (drop (i + 1) (take n rows))
   unfolding concat
   concat-front f d h = rw (front rows n i d h l)
 
+  -- no row is left: no bytes
   pub concat-end : (f : Row → List ℕ) → n ≤ i → concat f (drop i (take n rows)) ≡ []
   unfolding concat
   concat-end f h = rw (drop-of-length-le (take n rows) {i = i} (simp (length-take-le n rows l) h))
 
+  -- no row is left: nothing to count
   pub sum-end : (f : Row → ℕ) → n ≤ i → sum f (drop i (take n rows)) ≡ 0
   unfolding sum
   sum-end f h = rw (drop-of-length-le (take n rows) {i = i} (simp (length-take-le n rows l) h))
 
+  -- no row is left: nothing to know
   pub keyed-end : n ≤ i → Keyed (drop i (take n rows))
   keyed-end h = rw (drop-of-length-le (take n rows) {i = i} (simp (length-take-le n rows l) h)) tt
 
   module _ (d : Row) (h : i < n) where
+    -- an absent row gives its key to the erase group
     pub erase-absent : getD rows i d .present ≡ false → concat eraseBytes (drop i (take n rows))
         ≡ getD rows i d .key ++ concat eraseBytes (drop (i + 1) (take n rows))
     erase-absent e = concat-front eraseBytes d h ∙ rw e
 
+    -- a present row gives it nothing
     pub erase-present : getD rows i d .present ≡ true → concat eraseBytes (drop i (take n rows))
         ≡ concat eraseBytes (drop (i + 1) (take n rows))
     erase-present e = concat-front eraseBytes d h ∙ rw e
 
+    -- a present row gives its key, length and value to the reinstate group
     pub reinstate-present : (v : List ℕ) → getD rows i d .present ≡ true
         → concat (reinstateBytes v) (drop i (take n rows)) ≡ (getD rows i d .key
         ++ (leBytes 4 (getD rows i d .length) ++ valueOf v (getD rows i d))) ++ concat (reinstateBytes v) (drop (i + 1) (take n rows))
     reinstate-present v e = concat-front (reinstateBytes v) d h ∙ rw e
 
+    -- an absent row gives it nothing
     pub reinstate-absent : (v : List ℕ) → getD rows i d .present ≡ false
         → concat (reinstateBytes v) (drop i (take n rows)) ≡ concat (reinstateBytes v) (drop (i + 1) (take n rows))
     reinstate-absent v e = concat-front (reinstateBytes v) d h ∙ rw e
@@ -112,10 +120,12 @@ module _ (rows : List Row) (n i : ℕ) (l : n ≤ length rows) where
         let e : i - 1 + 1 ≡ i = omega arith in
         front rows n (i - 1) d (omega arith) l ∙ ap (λ (k : ℕ). getD rows (i - 1) d ∷ drop k (take n rows)) e
 
+    -- one row more is counted
     pub sum-before : (f : Row → ℕ) → sum f (drop (i - 1) (take n rows)) ≡ f (getD rows (i - 1) d) + sum f (drop i (take n rows))
     unfolding sum
     sum-before f = rw before
 
+    -- one key more is known
     pub keyed-before : length (getD rows (i - 1) d .key) ≡ 32 → Keyed (drop i (take n rows)) → Keyed (drop (i - 1) (take n rows))
     keyed-before e k = rw before (e, k)
 
