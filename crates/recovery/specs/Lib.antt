@@ -1,3 +1,4 @@
 pub mod ImageRows
 pub mod Rows
 pub mod Recovery
+pub mod Kept
