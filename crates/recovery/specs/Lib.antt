@@ -1,3 +1,5 @@
 pub mod ImageRows
+pub mod Sorted
 pub mod Rows
 pub mod Recovery
+pub mod Kept

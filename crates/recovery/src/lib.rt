@@ -23,6 +23,7 @@ pub struct Rows {
 }
 
 mod images;
+mod kept;
 
 // No row yet.
 fn no_rows() -> Rows
