@@ -5,10 +5,10 @@ use borrow.Fn.Kinds.{Dens, endedOf, resT}
 use denote.Triple.Clauses.{AtExit}
 use denote.Ref.{now}
 use contract.Lifetimes.{Lfts}
-use Rattle.iflughan.proofs.iflughan_name_write.Reads as name-write
-use Rattle.iflughan.proofs.iflughan_name_write.Kinds as name-write-kinds
-use Rattle.iflughan.proofs.iflughan_name_parse.Reads as name-parse
-use Rattle.iflughan.proofs.iflughan_name_parse.Kinds as name-parse-kinds
+use Rattle.iflughan.proofs.names.iflughan_name_write.Reads as name-write
+use Rattle.iflughan.proofs.names.iflughan_name_write.Kinds as name-write-kinds
+use Rattle.iflughan.proofs.names.iflughan_name_parse.Reads as name-parse
+use Rattle.iflughan.proofs.names.iflughan_name_parse.Kinds as name-parse-kinds
 
 -- `iflughan_name_write`: one answer, and one content of the buffer
 pub iflughan-name-write-unique : (κs : Lfts 2) (a : Dens κs name-write-kinds.ps) (r r′ : resT name-write-kinds.r κs .Denot)

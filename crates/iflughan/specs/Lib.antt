@@ -1,1 +1,3 @@
 pub mod Names
+pub mod Log
+pub mod Deltas

@@ -1,12 +1,28 @@
-// The C interface: each exported function hands its arguments on and turns the answer into a struct of numbers, the refusal first.
-// A refused call's struct has document 01's number and otherwise zeros. Padding has a name and is 0.
-ghost use mathlib.Core.Path.{_≡_};
-ghost use lib.ListN.{length};
-ghost use Rattle.segment_filename.specs.Format.{formattedOf, formattedInto};
-ghost use Rattle.segment_filename.specs.Parse.{parsedOf};
-ghost use Rattle.iflughan.specs.Names.{writtenName, parsedName};
-use segment_filename::Formatted;
-use segment_filename::Parsed;
+// The C interface (include/iflughan.h): each exported function hands its arguments on and turns the answer into a struct of numbers,
+// the refusal first. A refused call's struct has document 01's number and otherwise zeros, but for the log of append and of the prunes,
+// which is the log given. Padding has a name and is 0. Here stand the structs; the functions stand in the files of `mod`.
+use seglog::Log;
+
+mod deltas;
+mod log;
+mod names;
+
+// A new log, a log after a prune (iflughan_logged).
+#[repr(C)]
+pub struct Logged {
+    pub refusal: u32,
+    pub reserved: u32,
+    pub log: Log,
+}
+
+// The record's id and the log (iflughan_appended).
+#[repr(C)]
+pub struct Appended {
+    pub refusal: u32,
+    pub reserved: u32,
+    pub id: u64,
+    pub log: Log,
+}
 
 // What is written: its length (iflughan_written).
 #[repr(C)]
@@ -23,57 +39,29 @@ pub struct ParsedName {
     pub id: u32,
 }
 
-// The answer of `format` as numbers.
-fn written_name(answer: Formatted) -> Written
-    ensures { λ r. ⌜ r ≡ writtenName answer ⌝ }
-{
-    match answer {
-        Formatted::Length(n) => Written {
-            refusal: 0,
-            reserved: 0,
-            length: n as u64,
-        },
-        Formatted::EmptyPrefix => Written {
-            refusal: 30,
-            reserved: 0,
-            length: 0,
-        },
-        Formatted::BufferShort => Written {
-            refusal: 36,
-            reserved: 0,
-            length: 0,
-        },
-    }
+// A row of a delta (iflughan_delta_row): present is 0 for an absent row, and 1 is written for a present one.
+#[repr(C)]
+pub struct DeltaRow {
+    pub key: [u8; 32],
+    pub present: u8,
+    pub reserved: [u8; 7],
+    pub offset: u64,
+    pub length: u32,
+    pub reserved_too: u32,
 }
 
-// The answer of `parse` as numbers.
-fn parsed_name(answer: Parsed) -> ParsedName
-    ensures { λ r. ⌜ r ≡ parsedName answer ⌝ }
-{
-    match answer {
-        Parsed::Id(v) => ParsedName { refusal: 0, id: v },
-        Parsed::EmptyPrefix => ParsedName { refusal: 30, id: 0 },
-        Parsed::PrefixMissing => ParsedName { refusal: 31, id: 0 },
-        Parsed::SuffixMissing => ParsedName { refusal: 32, id: 0 },
-        Parsed::DotMissing => ParsedName { refusal: 33, id: 0 },
-        Parsed::NotTenBytes => ParsedName { refusal: 34, id: 0 },
-        Parsed::NotU32 => ParsedName { refusal: 35, id: 0 },
-    }
+// A delta's table (iflughan_delta): the first `count` rows.
+#[repr(C)]
+pub struct Delta {
+    pub count: u64,
+    pub rows: [DeltaRow; 256],
 }
 
-// Writes the name of segment `id` at the front of out, and answers its length; 30, 36.
-#[no_mangle]
-pub extern "C" fn iflughan_name_write(prefix: &[u8], id: u32, out: &mut [u8]) -> Written
-    ensures answer { λ r. ⌜ r ≡ writtenName (formattedOf (now (prefix .entry)) (length (now (out .entry)))) ⌝ }
-    ensures buffer { λ _. ⌜ now (out .exit) ≡ formattedInto (now (prefix .entry)) id (now (out .entry)) ⌝ }
-{
-    written_name(segment_filename::format(prefix, id, out))
-}
-
-// The id of the segment that `name` is the name of, under `prefix`; 30 to 35.
-#[no_mangle]
-pub extern "C" fn iflughan_name_parse(prefix: &[u8], name: &[u8]) -> ParsedName
-    ensures { λ r. ⌜ r ≡ parsedName (parsedOf (now (prefix .entry)) (now (name .entry))) ⌝ }
-{
-    parsed_name(segment_filename::parse(prefix, name))
+// The bytes consumed, and the rows (iflughan_decoded).
+#[repr(C)]
+pub struct DecodedDelta {
+    pub refusal: u32,
+    pub reserved: u32,
+    pub consumed: u64,
+    pub table: Delta,
 }

@@ -3,8 +3,8 @@
 use mathlib.Core.Path.{ap, _∙_}
 use borrow.Author.Needs.{needs}
 use Rattle.iflughan.specs.Names.{parsedName}
-use Rattle.iflughan.proofs.iflughan_name_parse.Statement.{statement}
-use Rattle.iflughan.proofs.iflughan_name_parse.Tie as tie
+use Rattle.iflughan.proofs.names.iflughan_name_parse.Statement.{statement}
+use Rattle.iflughan.proofs.names.iflughan_name_parse.Tie as tie
 
 parse-requires : tie.Need-parse-requires
 parse-requires c κs = search needs

@@ -4,8 +4,8 @@ use mathlib.Core.Path.{sym, ap}
 use borrow.Author.Needs.{needs}
 use Rattle.segment_filename.specs.Parse.{parseRefusal, parseId}
 use Rattle.iflughan.specs.Names.{parsedName}
-use Rattle.iflughan.proofs.parsed_name.Statement.{statement}
-use Rattle.iflughan.proofs.parsed_name.Tie as tie
+use Rattle.iflughan.proofs.names.parsed_name.Statement.{statement}
+use Rattle.iflughan.proofs.names.parsed_name.Tie as tie
 
 enum-known-answer : tie.Need-enum-known-answer
 enum-known-answer c = search needs

@@ -3,8 +3,8 @@
 use mathlib.Core.Path.{ap, _∙_}
 use borrow.Author.Needs.{needs}
 use Rattle.iflughan.specs.Names.{writtenName}
-use Rattle.iflughan.proofs.iflughan_name_write.Statement.{statement}
-use Rattle.iflughan.proofs.iflughan_name_write.Tie as tie
+use Rattle.iflughan.proofs.names.iflughan_name_write.Statement.{statement}
+use Rattle.iflughan.proofs.names.iflughan_name_write.Tie as tie
 
 format-requires : tie.Need-format-requires
 format-requires c κs = search needs

@@ -4,8 +4,8 @@ use mathlib.Core.Path.{sym, ap}
 use borrow.Author.Needs.{needs}
 use Rattle.segment_filename.specs.Format.{formatRefusal, formatLength}
 use Rattle.iflughan.specs.Names.{writtenName}
-use Rattle.iflughan.proofs.written_name.Statement.{statement}
-use Rattle.iflughan.proofs.written_name.Tie as tie
+use Rattle.iflughan.proofs.names.written_name.Statement.{statement}
+use Rattle.iflughan.proofs.names.written_name.Tie as tie
 
 enum-known-answer : tie.Need-enum-known-answer
 enum-known-answer c = search needs

@@ -1,0 +1,80 @@
+-- `iflughan::table_in` meets its contract. The loop's invariant: the first i rows are those of the table that is lent.
+-- The measure is the number of rows left. Assumes nothing.
+use Prim.Native.Nat.{_≤_, _-_}
+use mathlib.Core.List.{[], map}
+use mathlib.Core.Path.{_≡_, refl, ap, _∙_}
+use lib.ListN.{length, take, length-set}
+use native.Mathlib.Omega.{arith}
+use borrow.Author.Needs.{needs}
+use Rattle.keys.proofs.Place.{unmapped}
+use Rattle.delta.proofs.Placing.{keys-turn}
+use Rattle.iflughan.specs.Deltas.{rowIn}
+use Rattle.iflughan.specs.declared.DeltaRow.{DeltaRow}
+use Rattle.iflughan.proofs.Rows.{all-rows}
+use Rattle.iflughan.proofs.deltas.table_in.Statement.{statement}
+use Rattle.iflughan.proofs.deltas.table_in.Tie as tie
+use Rattle.iflughan.proofs.deltas.table_in.Reads as reads
+use Rattle.iflughan.proofs.deltas.table_in.Lts as lts
+
+abbrev Inv-loop : tie.InvT-loop
+Inv-loop t rows₀ i₀ rows i = (i ≤ 256) × (length (t .rows) ≡ 256) × (length rows ≡ 256) × (take i rows ≡ map rowIn (take i (t .rows)))
+
+abbrev μ-loop : tie.MeasureT-loop
+μ-loop t rows₀ i₀ rows i = 256 - i
+
+loop-holds : tie.Need-loop-holds Inv-loop μ-loop
+loop-holds c = (omega arith, search (needs, unmapped), refl, refl)
+
+mul-row : tie.Need-mul-row Inv-loop μ-loop
+mul-row c = search needs
+
+element-copy-out-row : tie.Need-element-copy-out-row Inv-loop μ-loop
+element-copy-out-row c = search needs
+
+mul-rows : tie.Need-mul-rows Inv-loop μ-loop
+mul-rows c = search needs
+
+array-set-from-rows : tie.Need-array-set-from-rows Inv-loop μ-loop
+array-set-from-rows c = search needs
+
+add-i : tie.Need-add-i Inv-loop μ-loop
+add-i c = search needs
+
+loop-less : tie.Need-loop-less Inv-loop μ-loop
+loop-less c = search needs
+
+abbrev nothing : DeltaRow
+nothing = record { key = []; present = 0; reserved = []; offset = 0; length = 0; «reserved_too» = 0 }
+
+loop-again : tie.Need-loop-again Inv-loop μ-loop
+loop-again c =
+    let b = c .before .before .before .before in
+    let a = b .before .args in (
+      omega arith,
+      b .loop .inv .1,
+      simp length-set (b .loop .inv .2),
+      keys-turn rowIn (a .t1 .rows) (b .loop .rows) (b .loop .i) nothing (omega arith) (omega arith) (b .loop .inv .3),
+    )
+
+returns : tie.Need-returns Inv-loop μ-loop
+returns c =
+    let b = c .before in
+    let a = b .before .args in
+    let e = all-rows rowIn (a .t1 .rows) (b .loop .rows) (b .loop .i) 256 (omega arith) (b .loop .inv .1) (b .loop .inv .2) (b .loop .inv .3) in
+    λ i. record { rows = e i; count = a .t1 .count }
+
+pub table-in-spec : {M : Type 1} → statement M
+table-in-spec =
+    tie.close
+    (tie.spec
+    Inv-loop
+    μ-loop
+    loop-holds
+    mul-row
+    element-copy-out-row
+    mul-rows
+    array-set-from-rows
+    add-i
+    loop-less
+    loop-again
+    returns)

@@ -1,0 +1,96 @@
+-- `iflughan::table_out` meets its contract. The loop's invariant: the first i rows are those of the library's table.
+-- The measure is the number of rows left. Assumes nothing.
+use Prim.Native.Nat.{_≤_, _+_, _-_}
+use mathlib.Core.List.{List, [], map}
+use mathlib.Core.Path.{_≡_, refl, ap, _∙_}
+use lib.ListN.{length, take, set, getD, replicate, length-set}
+use native.Mathlib.Omega.{arith}
+use borrow.Author.Needs.{needs}
+use Rattle.keys.proofs.Place.{unmapped}
+use Rattle.delta.specs.Table.{erased}
+use Rattle.delta.proofs.Placing.{keys-turn}
+use Rattle.iflughan.specs.Deltas.{rowOut}
+use Rattle.iflughan.specs.declared.DeltaRow.{DeltaRow}
+use Rattle.iflughan.proofs.Rows.{all-rows}
+use Rattle.iflughan.proofs.deltas.table_out.Statement.{statement}
+use Rattle.iflughan.proofs.deltas.table_out.Tie as tie
+use Rattle.iflughan.proofs.deltas.table_out.Reads as reads
+use Rattle.iflughan.proofs.deltas.table_out.Lts as lts
+use Rattle.iflughan.proofs.deltas.mark.Reads as mark-reads
+
+abbrev Inv-loop : tie.InvT-loop
+Inv-loop t reserved rows₀ i₀ rows i =
+    (i ≤ 256) × (length (t .rows) ≡ 256) × (length rows ≡ 256) × (take i rows ≡ map rowOut (take i (t .rows))) × (reserved ≡ replicate 7 0)
+
+abbrev μ-loop : tie.MeasureT-loop
+μ-loop t reserved rows₀ i₀ rows i = 256 - i
+
+loop-holds : tie.Need-loop-holds Inv-loop μ-loop
+loop-holds c = (omega arith, search (needs, unmapped), refl, refl, refl)
+
+mul-row : tie.Need-mul-row Inv-loop μ-loop
+mul-row c = search needs
+
+element-copy-out-row : tie.Need-element-copy-out-row Inv-loop μ-loop
+element-copy-out-row c = search needs
+
+mark-requires : tie.Need-mark-requires Inv-loop μ-loop
+mark-requires c κs = search needs
+
+mul-rows : tie.Need-mul-rows Inv-loop μ-loop
+mul-rows c = search needs
+
+array-set-from-rows : tie.Need-array-set-from-rows Inv-loop μ-loop
+array-set-from-rows c = search needs
+
+add-i : tie.Need-add-i Inv-loop μ-loop
+add-i c = search needs
+
+loop-less : tie.Need-loop-less Inv-loop μ-loop
+loop-less c = search needs
+
+loop-again : tie.Need-loop-again Inv-loop μ-loop
+loop-again c =
+    let b = c .before .before .before .before in
+    let a = b .before .args in
+    let n = b .loop .i in
+    let x = getD (a .t1 .rows) n (erased []) in
+    let same : _≡_ {A = DeltaRow} _ (rowOut x) = λ j. record {
+      key = x .key;
+      present = c .mark .ensures j;
+      reserved = b .loop .inv .4 j;
+      offset = x .offset;
+      length = x .length;
+      «reserved_too» = 0;
+    } in (
+      omega arith,
+      b .loop .inv .1,
+      simp length-set (b .loop .inv .2),
+      ap (λ (r : DeltaRow). take (n + 1) (set (b .loop .rows) n r)) same
+      ∙ keys-turn rowOut (a .t1 .rows) (b .loop .rows) n (erased []) (omega arith) (omega arith) (b .loop .inv .3),
+      b .loop .inv .4,
+    )
+
+returns : tie.Need-returns Inv-loop μ-loop
+returns c =
+    let b = c .before in
+    let a = b .before .args in
+    let e = all-rows rowOut (a .t1 .rows) (b .loop .rows) (b .loop .i) 256 (omega arith) (b .loop .inv .1) (b .loop .inv .2) (b .loop .inv .3) in
+    λ i. record { count = a .t1 .count; rows = e i }
+
+pub table-out-spec : {M : Type 1} → statement M
+table-out-spec =
+    tie.close
+    (tie.spec
+    Inv-loop
+    μ-loop
+    loop-holds
+    mul-row
+    element-copy-out-row
+    mark-requires
+    mul-rows
+    array-set-from-rows
+    add-i
+    loop-less
+    loop-again
+    returns)

@@ -1,0 +1,8 @@
+-- The answers of a new log, of append and of the prunes as the structs that cross the C interface: the library's, with the padding named.
+-- Assumes nothing.
+use Rattle.seglog.specs.declared.Logged as Library
+use Rattle.iflughan.specs.declared.Logged.{Logged}
+
+-- the refusal number and the log of a new log or a prune
+abbrev pub loggedOut : Library.Logged → Logged
+loggedOut answer = record { refusal = answer .refusal; reserved = 0; log = answer .log }
