@@ -11,7 +11,7 @@ use lib.Seq.{length-take-le}
 use native.Mathlib.Omega.{arith}
 use Rattle.keys.proofs.Place.{front}
 use Rattle.delta.specs.declared.Row.{Row}
-use Rattle.delta_encode.specs.Bytes.{eraseBytes, reinstateBytes, valueOf, outside, concat, sum, erases, reinstates, sizeOf, Keyed}
+use Rattle.delta_encode.specs.Bytes.{eraseBytes, reinstateBytes, valueOf, outside, concat, sum, erases, reinstates, sizeOf, Keyed, Sized}
 use Rattle.lists.specs.Choice.{pick}
 use Rattle.lists.specs.Splice.{splice}
 use Rattle.lists.proofs.Splice.{splice-length, splice-none, splice-join}
@@ -69,14 +69,12 @@ module _ (rows : List Row) (n i : ℕ) (l : n ≤ length rows) where
   unfolding concat
   concat-end f h = rw (drop-of-length-le (take n rows) {i = i} (simp (length-take-le n rows l) h))
 
-  -- no row is left: nothing to count
-  pub sum-end : (f : Row → ℕ) → n ≤ i → sum f (drop i (take n rows)) ≡ 0
+  -- no row is left: nothing is counted
+  pub sized-end : n ≤ i → Sized (drop i (take n rows)) (record { erases = 0; reinstates = 0; size = 8 })
   unfolding sum
-  sum-end f h = rw (drop-of-length-le (take n rows) {i = i} (simp (length-take-le n rows l) h))
-
-  -- no row is left: nothing to know
-  pub keyed-end : n ≤ i → Keyed (drop i (take n rows))
-  keyed-end h = rw (drop-of-length-le (take n rows) {i = i} (simp (length-take-le n rows l) h)) tt
+  sized-end h =
+      rw (drop-of-length-le (take n rows) {i = i} (simp (length-take-le n rows l) h))
+      (record { erased = refl; kept = refl; size = refl; keyed = tt })
 
   module _ (d : Row) (h : i < n) where
     -- an absent row gives its key to the erase group
@@ -120,14 +118,17 @@ module _ (rows : List Row) (n i : ℕ) (l : n ≤ length rows) where
         let e : i - 1 + 1 ≡ i = omega arith in
         front rows n (i - 1) d (omega arith) l ∙ ap (λ (k : ℕ). getD rows (i - 1) d ∷ drop k (take n rows)) e
 
-    -- one row more is counted
-    pub sum-before : (f : Row → ℕ) → sum f (drop (i - 1) (take n rows)) ≡ f (getD rows (i - 1) d) + sum f (drop i (take n rows))
+    -- one row more is counted, with what it adds
+    pub sized-before : (e k size e' k' size' : ℕ) → length (getD rows (i - 1) d .key) ≡ 32
+        → e' ≡ erases (getD rows (i - 1) d) + e → k' ≡ reinstates (getD rows (i - 1) d) + k → size' ≡ sizeOf (getD rows (i - 1) d) + size
+        → Sized (drop i (take n rows)) (record { erases = e; reinstates = k; size = size })
+        → Sized (drop (i - 1) (take n rows)) (record { erases = e'; reinstates = k'; size = size' })
     unfolding sum
-    sum-before f = rw before
-
-    -- one key more is known
-    pub keyed-before : length (getD rows (i - 1) d .key) ≡ 32 → Keyed (drop i (take n rows)) → Keyed (drop (i - 1) (take n rows))
-    keyed-before e k = rw before (e, k)
+    sized-before e k size e' k' size' long he hk hs s =
+        let a = s .erased in
+        let b = s .kept in
+        let c = s .size in
+        rw before (record { erased = omega arith; kept = omega arith; size = omega arith; keyed = (long, s .keyed) })
 
 -- how many bytes a present row takes
 pub present-length : (v : List ℕ) (r : Row) → length (r .key) ≡ 32 → r .offset + r .length ≤ length v

@@ -7,8 +7,8 @@ use lib.ListN.{length, take, drop}
 use native.Mathlib.Omega.{arith}
 use Rattle.keys.proofs.Place.{unmapped}
 use Rattle.delta.specs.Table.{erased, rowAt}
-use Rattle.delta_encode.specs.Bytes.{sum, erases, reinstates, sizeOf, Keyed}
-use Rattle.delta_encode.proofs.Writes.{sum-end, sum-before, keyed-end, keyed-before}
+use Rattle.delta_encode.specs.Bytes.{erases, reinstates, sizeOf, Sized}
+use Rattle.delta_encode.proofs.Writes.{sized-end, sized-before}
 use borrow.Author.Needs.{needs}
 use Rattle.delta_encode.proofs.measure.Statement.{statement}
 use Rattle.delta_encode.proofs.measure.Tie as tie
@@ -16,8 +16,7 @@ use Rattle.delta_encode.proofs.measure.Tie as tie
 abbrev Inv-loop : tie.InvT-loop
 Inv-loop t e₀ k₀ size₀ i₀ e k size i =
     (i ≤ t .count) × (length (t .rows) ≡ 256) × (e + k + i ≡ t .count) × (size + i * 4294967332 ≤ 8 + t .count * 4294967332)
-    × (e ≡ sum erases (drop i (take (t .count) (t .rows)))) × (k ≡ sum reinstates (drop i (take (t .count) (t .rows))))
-    × (size ≡ sum sizeOf (drop i (take (t .count) (t .rows))) + 8) × Keyed (drop i (take (t .count) (t .rows)))
+    × Sized (drop i (take (t .count) (t .rows))) (record { erases = e; reinstates = k; size = size })
 
 abbrev μ-loop : tie.MeasureT-loop
 μ-loop t erases₀ reinstates₀ size₀ i₀ erases reinstates size i = i
@@ -26,16 +25,7 @@ loop-holds : tie.Need-loop-holds Inv-loop μ-loop
 loop-holds c =
     let a = c .args .t1 in
     let l : length (a .rows) ≡ 256 = search (needs, unmapped) in
-    let m = a .count in (
-      omega arith,
-      l,
-      omega arith,
-      omega arith,
-      sym (sum-end (a .rows) m m (omega arith) erases (omega arith)),
-      sym (sum-end (a .rows) m m (omega arith) reinstates (omega arith)),
-      omega (arith, sum-end (a .rows) m m (omega arith) sizeOf (omega arith)),
-      keyed-end (a .rows) m m (omega arith) (omega arith),
-    )
+    (omega arith, l, omega arith, omega arith, sized-end (a .rows) (a .count) (a .count) (omega arith) (omega arith))
 
 sub-i : tie.Need-sub-i Inv-loop μ-loop
 sub-i c = search needs
@@ -73,22 +63,14 @@ loop-again c =
     let a = b .before .args .t1 in
     let row = rowAt a (b .loop .i - 1) in
     let y = c .before .if1 .taken in
-    let h : length (row .key) ≡ 32 = c .before .before .key-size .ensures .1 in
+    let h = c .before .before .key-size .ensures .0 in
     let e0 : erases row ≡ 0 = rw y in
     let e1 : reinstates row ≡ 1 = rw y in
     let e2 : sizeOf row ≡ 36 + row .length = rw y in
-    let f0 = sum-before (a .rows) (a .count) (b .loop .i) (omega arith) (omega arith) (omega arith) (erased []) erases in
-    let f1 = sum-before (a .rows) (a .count) (b .loop .i) (omega arith) (omega arith) (omega arith) (erased []) reinstates in
-    let f2 = sum-before (a .rows) (a .count) (b .loop .i) (omega arith) (omega arith) (omega arith) (erased []) sizeOf in (
-      omega arith,
-      b .loop .inv .1,
-      omega arith,
-      omega arith,
-      omega arith,
-      omega arith,
-      omega arith,
-      keyed-before (a .rows) (a .count) (b .loop .i) (omega arith) (omega arith) (omega arith) (erased []) h (b .loop .inv .7),
-    )
+    let s = sized-before (a .rows) (a .count) (b .loop .i) (omega arith) (omega arith) (omega arith) (erased [])
+    (b .loop .erases) (b .loop .reinstates) (b .loop .size) (b .loop .erases) (b .loop .reinstates + 1) (b .loop .size + c .before .before .key-size .result + (4 + row .length))
+    (c .before .before .key-size .ensures .1) (omega arith) (omega arith) (omega arith) (b .loop .inv .4) in
+    (omega arith, b .loop .inv .1, omega arith, omega arith, s)
 
 add-erases : tie.Need-add-erases Inv-loop μ-loop
 add-erases c = search needs
@@ -102,28 +84,20 @@ loop-again-2 c =
     let a = b .before .args .t1 in
     let row = rowAt a (b .loop .i - 1) in
     let y = c .if1 .left in
-    let h : length (row .key) ≡ 32 = c .before .key-size .ensures .1 in
+    let h = c .before .key-size .ensures .0 in
     let e0 : erases row ≡ 1 = rw y in
     let e1 : reinstates row ≡ 0 = rw y in
     let e2 : sizeOf row ≡ 32 = rw y in
-    let f0 = sum-before (a .rows) (a .count) (b .loop .i) (omega arith) (omega arith) (omega arith) (erased []) erases in
-    let f1 = sum-before (a .rows) (a .count) (b .loop .i) (omega arith) (omega arith) (omega arith) (erased []) reinstates in
-    let f2 = sum-before (a .rows) (a .count) (b .loop .i) (omega arith) (omega arith) (omega arith) (erased []) sizeOf in (
-      omega arith,
-      b .loop .inv .1,
-      omega arith,
-      omega arith,
-      omega arith,
-      omega arith,
-      omega arith,
-      keyed-before (a .rows) (a .count) (b .loop .i) (omega arith) (omega arith) (omega arith) (erased []) h (b .loop .inv .7),
-    )
+    let s = sized-before (a .rows) (a .count) (b .loop .i) (omega arith) (omega arith) (omega arith) (erased [])
+    (b .loop .erases) (b .loop .reinstates) (b .loop .size) (b .loop .erases + 1) (b .loop .reinstates) (b .loop .size + c .before .key-size .result)
+    (c .before .key-size .ensures .1) (omega arith) (omega arith) (omega arith) (b .loop .inv .4) in
+    (omega arith, b .loop .inv .1, omega arith, omega arith, s)
 
 returns : tie.Need-returns Inv-loop μ-loop
 returns c =
     let l = c .before .loop in
     let e : l .i ≡ 0 = omega arith in
-    record { erased = rw e at (l .inv .4); kept = rw e at (l .inv .5); size = rw e at (l .inv .6); keyed = rw e at (l .inv .7) }
+    rw e at (l .inv .4)
 
 pub measure-spec : {M : Type 1} → statement M
 measure-spec =
