@@ -9,7 +9,9 @@ use native.Mathlib.Omega.{arith}
 use lib.ListN.{length, getD, take, drop}
 use lib.Seq.{drop-cons}
 use lib.Dec.{eqb, leb, ltb}
-use borrow.Author.Tests.{le-leb, leb-true, lt-ltb, ltb-true, eq-eqb, eqb-true}
+use borrow.Author.Tests.{le-leb, leb-true, lt-ltb, ltb-true, eq-eqb, eqb-true, eqb-false}
+use Rattle.lists.specs.Choice.{pick}
+use Rattle.lists.proofs.Cases.{by-test}
 use Rattle.seglog.specs.declared.Segment.{Segment}
 use Rattle.seglog.specs.declared.Log.{Log}
 use Rattle.seglog.specs.Log.{
@@ -205,45 +207,66 @@ module _ (l : Log) (n : ℕ) (long : length (l .segs) ≡ 64) where
   no-fit : (Fitting l n → ⊥) → false ≡ fittingOf l n
   no-fit h = not-so (fittingOf l n) (λ q. h (fitting-is q))
 
-  -- the ways of the code: K, C or M breaks the rules
-  pub fit-sizes : sizesOf (l .k) (l .c) (l .m) ≡ false → false ≡ fittingOf l n
-  fit-sizes h = no-fit (λ f. both-ways _ (are-sizes (l .k) (l .c) (l .m) (f .sizes)) h)
-
-  -- more segments than slots
-  pub fit-many : l .k < l .count → false ≡ fittingOf l n
-  fit-many h = no-fit (λ f. omega (arith, f .few))
-
-  -- an area of another length
-  pub fit-length : (n ≡ l .k * l .c → ⊥) → false ≡ fittingOf l n
-  fit-length h = no-fit (λ f. h (f .area))
+  -- the ways of the code: K, C, M, the count or the area's length breaks the rules
+  pub fit-sizes : sizesOf (l .k) (l .c) (l .m) && leb (l .count) (l .k) && eqb n (l .k * l .c) ≡ false → false ≡ fittingOf l n
+  fit-sizes h =
+      no-fit (λ f.
+      both-ways _
+      (both-and (sizesOf (l .k) (l .c) (l .m) && leb (l .count) (l .k)) (eqb n (l .k * l .c))
+      (both-and (sizesOf (l .k) (l .c) (l .m)) (leb (l .count) (l .k)) (are-sizes (l .k) (l .c) (l .m) (f .sizes))
+      (le-leb (l .count) (l .k) (f .few))) (eq-eqb n (l .k * l .c) (f .area))) h)
 
   -- a dirty entry
-  pub fit-dirty : zerosOf (drop (l .count) (l .segs)) ≡ false → false ≡ fittingOf l n
-  fit-dirty h = no-fit (λ f. both-ways _ (f .zeros) h)
+  pub fit-dirty : false ≡ zerosOf (drop (l .count) (l .segs)) → false ≡ fittingOf l n
+  fit-dirty h = no-fit (λ f. both-ways _ (f .zeros) (sym h))
 
   -- segments that do not go on from each other, or share a slot
-  pub fit-listed : chainOf (l .k) (l .c) gs && apartOf gs ≡ false → false ≡ fittingOf l n
-  fit-listed h = no-fit (λ f. both-ways _ (both-and (chainOf (l .k) (l .c) gs) (apartOf gs) (f .chain) (f .apart)) h)
+  pub fit-listed : false ≡ chainOf (l .k) (l .c) gs && apartOf gs → false ≡ fittingOf l n
+  fit-listed h = no-fit (λ f. both-ways _ (both-and (chainOf (l .k) (l .c) gs) (apartOf gs) (f .chain) (f .apart)) (sym h))
 
-  -- the last test decides
-  pub fit-ends : (b : Bool) → sizesOf (l .k) (l .c) (l .m) ≡ true → l .count ≤ l .k → n ≡ l .k * l .c
-      → zerosOf (drop (l .count) (l .segs)) ≡ true → chainOf (l .k) (l .c) gs && apartOf gs ≡ true → b ≡ endsOf (l .start) (l .end) gs
-      → b ≡ fittingOf l n
-  fit-ends b sizes few area zeros listed e =
-      let both = and-both (chainOf (l .k) (l .c) gs) (apartOf gs) listed in
-      same-test b (fittingOf l n)
-      (λ q.
-      is-fitting
-      (record {
-        sizes = sizes-are (l .k) (l .c) (l .m) sizes;
-        few = few;
-        area = area;
-        zeros = zeros;
-        chain = both .0;
-        apart = both .1;
-        ends = sym e ∙ q;
-      }))
-      (λ q. e ∙ fitting-is q .ends)
+-- what the numbers of a log tell
+pub record Sized (l : Log) (n : ℕ) : Type 0 where
+  pub long : length (l .segs) ≡ 64
+  pub sizes : SizesObey (l .k) (l .c) (l .m)
+  pub few : l .count ≤ l .k
+  pub area : n ≡ l .k * l .c
+
+pub sized-is : (l : Log) (n : ℕ) → length (l .segs) ≡ 64
+    → sizesOf (l .k) (l .c) (l .m) && leb (l .count) (l .k) && eqb n (l .k * l .c) ≡ true → Sized l n
+sized-is l n long h =
+    let a = and-both (sizesOf (l .k) (l .c) (l .m) && leb (l .count) (l .k)) (eqb n (l .k * l .c)) h in
+    let b = and-both (sizesOf (l .k) (l .c) (l .m)) (leb (l .count) (l .k)) (a .0) in
+    record {
+      long = long;
+      sizes = sizes-are (l .k) (l .c) (l .m) (b .0);
+      few = leb-true (l .count) (l .k) (b .1);
+      area = eqb-true n (l .k * l .c) (a .1);
+    }
+
+-- as many entries are listed as the array has at most
+pub sized-count : (l : Log) (n : ℕ) → Sized l n → l .count ≤ 64
+sized-count l n s = omega (arith, s .few, s .sizes .few-slots)
+
+-- the last test decides
+pub fit-ends : (l : Log) (n : ℕ) (b : Bool) → Sized l n → zerosOf (drop (l .count) (l .segs)) ≡ true
+    → true ≡ chainOf (l .k) (l .c) (take (l .count) (l .segs)) && apartOf (take (l .count) (l .segs))
+    → b ≡ endsOf (l .start) (l .end) (take (l .count) (l .segs)) → b ≡ fittingOf l n
+fit-ends l n b s zeros listed e =
+    let gs : List Segment = take (l .count) (l .segs) in
+    let both = and-both (chainOf (l .k) (l .c) gs) (apartOf gs) (sym listed) in
+    same-test b (fittingOf l n)
+    (λ q.
+    is-fitting l n (s .long)
+    (record {
+      sizes = s .sizes;
+      few = s .few;
+      area = s .area;
+      zeros = zeros;
+      chain = both .0;
+      apart = both .1;
+      ends = sym e ∙ q;
+    }))
+    (λ q. e ∙ fitting-is l n (s .long) q .ends)
 
 -- ---- a view's log
 
@@ -267,23 +290,28 @@ module _ (v : View) (sizes : SizesObey (v .k) (v .c) (v .m)) (few : length (v .s
 
 -- ---- the two ends
 
--- the ends where there are segments, as the code has them
-pub ends-some : (n : ℕ) (gs : List Segment) (s e : ℕ) → length gs ≡ 64 → n ≤ 64 → 0 < n
-    → (leb (getD gs 0 noSegment .min) s && leb s (getD gs 0 noSegment .max) && eqb (getD gs (n - 1) noSegment .size % 4096) 0
-    && eqb (getD gs (n - 1) noSegment .max) e)
-    ≡ endsOf s e (take n gs)
+-- the ends, as the code has them
+pub ends-by : (l : Log) (n last : ℕ) → Sized l n → last ≡ l .count - 1
+    → pick (eqb (l .count) 0) (eqb (l .start) 0 && eqb (l .end) 0)
+    (leb (getD (l .segs) 0 noSegment .min) (l .start) && leb (l .start) (getD (l .segs) 0 noSegment .max)
+    && eqb (getD (l .segs) last noSegment .size % 4096) 0 && eqb (getD (l .segs) last noSegment .max) (l .end))
+    ≡ endsOf (l .start) (l .end) (take (l .count) (l .segs))
 unfolding endsOf
-ends-some n gs s e long few h =
-    let listed = listed-length n gs long few in
-    let first : take n gs ≡ getD gs 0 noSegment ∷ drop 1 (take n gs) =
-    drop-cons (take n gs) 0 noSegment (rw listed h)
-    ∙ ap (λ (g : Segment). g ∷ drop 1 (take n gs)) (listed-at n gs long few 0 h) in
-    let last : headOf (getD gs 0 noSegment ∷ drop 1 (take n gs)) ≡ getD gs (n - 1) noSegment =
-    ap (λ (l : List Segment). headOf l) (sym first) ∙ listed-head n gs long few h in
-    sym (ap (endsOf s e) first
-    ∙ ap (λ (x : Segment). leb (getD gs 0 noSegment .min) s && leb s (getD gs 0 noSegment .max) && eqb (x .size % 4096) 0 && eqb (x .max) e) last)
-
--- where there are none
-pub ends-none : (n : ℕ) (gs : List Segment) (s e : ℕ) → n ≡ 0 → eqb s 0 && eqb e 0 ≡ endsOf s e (take n gs)
-unfolding endsOf
-ends-none n gs s e z = rw z refl
+ends-by l n last s at-last =
+    by-test (eqb (l .count) 0)
+    (λ e. let z = eqb-true (l .count) 0 e in simp e (rw z refl))
+    (λ e.
+    let some : 0 < l .count = let z = eqb-false (l .count) 0 e in omega arith in
+    let few = sized-count l n s in
+    let gs : List Segment = take (l .count) (l .segs) in
+    let first : gs ≡ getD (l .segs) 0 noSegment ∷ drop 1 gs =
+    drop-cons gs 0 noSegment (rw (listed-length (l .count) (l .segs) (s .long) few) some)
+    ∙ ap (λ (g : Segment). g ∷ drop 1 gs) (listed-at (l .count) (l .segs) (s .long) few 0 some) in
+    let head : headOf (getD (l .segs) 0 noSegment ∷ drop 1 gs) ≡ getD (l .segs) last noSegment =
+    ap (λ (x : List Segment). headOf x) (sym first) ∙ listed-head (l .count) (l .segs) (s .long) few some
+    ∙ ap (λ (j : ℕ). getD (l .segs) j noSegment) (sym at-last) in
+    simp e
+    (sym (ap (endsOf (l .start) (l .end)) first
+    ∙ ap (λ (x : Segment).
+    leb (getD (l .segs) 0 noSegment .min) (l .start) && leb (l .start) (getD (l .segs) 0 noSegment .max) && eqb (x .size % 4096) 0
+    && eqb (x .max) (l .end)) head)))

@@ -107,50 +107,57 @@ module _ (k c n : ℕ) (gs : List Segment) (used : List ℕ) (later : Segment) (
       ∙ ap (λ (x : Segment). x ∷ drop (suc i) (take n gs)) (listed-at n gs (seen .long) few i h ∙ sym (seen .next h)) in
       rw (ne-eqb i n (λ z. omega arith), some) refl)
 
-  module _ (a b d : Bool) (ea : a ≡ segOf k c g) (eb : b ≡ eqb i n) (ed : d ≡ eqb (later .id) (g .id + 1) && eqb (later .min) (g .max + 1)) where
-    step : chainOf k c (drop (i - 1) (take n gs)) ≡ a && (b || d)
-    unfolding chainOf
-    step =
-        ap (chainOf k c) one-more ∙ rw (seen .chain, ← linked, ← ea, ← eb, ← ed) (and-true (a && (b || d)))
-      where
-        and-true : (x : Bool) → x && true ≡ x
-        and-true true = refl
-        and-true false = refl
+  module _
+      (t : Bool) (test : t ≡ segOf k c g && (eqb i n || (eqb (later .id) (g .id + 1) && eqb (later .min) (g .max + 1))))
+    where
+      step : chainOf k c (drop (i - 1) (take n gs)) ≡ t
+      unfolding chainOf
+      step = ap (chainOf k c) one-more ∙ rw (seen .chain, ← linked, ← test) (and-true t)
+        where
+          and-true : (x : Bool) → x && true ≡ x
+          and-true true = refl
+          and-true false = refl
 
-    -- a segment that is not good, or does not lead to the next one
-    pub seen-bad : a && (b || d) ≡ false → false ≡ chainOf k c (take n gs) && apartOf (take n gs)
-    seen-bad h =
-        not-so _ (λ q. both-ways _ (chain-drop k c (i - 1) (take n gs) (and-both (chainOf k c (take n gs)) (apartOf (take n gs)) q .0)) (step ∙ h))
+      -- a segment that is not good, or does not lead to the next one
+      pub seen-bad : t ≡ false → false ≡ chainOf k c (take n gs) && apartOf (take n gs)
+      seen-bad h =
+          not-so _
+          (λ q.
+          both-ways _ (chain-drop k c (i - 1) (take n gs) (and-both (chainOf k c (take n gs)) (apartOf (take n gs)) q .0)) (step ∙ h))
 
-    module _ (good : a && (b || d) ≡ true) (most : k ≤ 64) where
-      -- a good segment's slot has a mark
-      pub seen-slot : g .slot < 64
-      seen-slot = omega (arith, seg-is k c g (sym ea ∙ and-both a (b || d) good .0) .slot)
+      module _ (good : t ≡ true) (most : k ≤ 64) where
+        -- a good segment's slot has a mark
+        pub seen-slot : g .slot < 64
+        seen-slot =
+            let both = and-both (segOf k c g) (eqb i n || (eqb (later .id) (g .id + 1) && eqb (later .min) (g .max + 1))) (sym test ∙ good) in
+            omega (arith, seg-is k c g (both .0) .slot)
 
-      at-slot : getD used (g .slot) 0 ≡ getD (marksOf rest) (g .slot) 0
-      at-slot = ap (λ (l : List ℕ). getD l (g .slot) 0) (seen .marks)
+        at-slot : getD used (g .slot) 0 ≡ getD (marksOf rest) (g .slot) 0
+        at-slot = ap (λ (l : List ℕ). getD l (g .slot) 0) (seen .marks)
 
-      -- a slot that was seen
-      pub seen-twice : (getD used (g .slot) 0 ≡ 0 → ⊥) → false ≡ chainOf k c (take n gs) && apartOf (take n gs)
-      unfolding apartOf
-      seen-twice h =
-          let bad : apartOf (drop (i - 1) (take n gs)) ≡ false =
-          ap apartOf one-more ∙ rw (mark-some rest (g .slot) seen-slot (λ z. h (at-slot ∙ z))) refl in
-          not-so _ (λ q. both-ways _ (apart-drop (i - 1) (take n gs) (and-both (chainOf k c (take n gs)) (apartOf (take n gs)) q .1)) bad)
+        -- a slot that was seen
+        pub seen-twice : (getD used (g .slot) 0 ≡ 0 → ⊥) → false ≡ chainOf k c (take n gs) && apartOf (take n gs)
+        unfolding apartOf
+        seen-twice h =
+            let bad : apartOf (drop (i - 1) (take n gs)) ≡ false =
+            ap apartOf one-more ∙ rw (mark-some rest (g .slot) seen-slot (λ z. h (at-slot ∙ z))) refl in
+            not-so _
+            (λ q.
+            both-ways _ (apart-drop (i - 1) (take n gs) (and-both (chainOf k c (take n gs)) (apartOf (take n gs)) q .1)) bad)
 
-      -- one segment more
-      pub seen-more : getD used (g .slot) 0 ≡ 0 → Seen k c n gs (set used (g .slot) 1) g (i - 1)
-      unfolding apartOf marksOf
-      seen-more h =
-          record {
-            long = seen .long;
-            within = omega (arith, seen .within);
-            chain = step ∙ good;
-            apart = ap apartOf one-more
-                ∙ both-and (freshIn (g .slot) rest) (apartOf rest) (mark-none rest (g .slot) seen-slot (sym at-slot ∙ h)) (seen .apart);
-            marks = ap (λ (l : List ℕ). set l (g .slot) 1) (seen .marks) ∙ ap marksOf (sym one-more);
-            next = λ h. refl;
-          }
+        -- one segment more
+        pub seen-more : getD used (g .slot) 0 ≡ 0 → Seen k c n gs (set used (g .slot) 1) g (i - 1)
+        unfolding apartOf marksOf
+        seen-more h =
+            record {
+              long = seen .long;
+              within = omega (arith, seen .within);
+              chain = step ∙ good;
+              apart = ap apartOf one-more
+                  ∙ both-and (freshIn (g .slot) rest) (apartOf rest) (mark-none rest (g .slot) seen-slot (sym at-slot ∙ h)) (seen .apart);
+              marks = ap (λ (l : List ℕ). set l (g .slot) 1) (seen .marks) ∙ ap marksOf (sym one-more);
+              next = λ h. refl;
+            }
 
 -- all have been seen
 pub seen-all : (k c n : ℕ) (gs : List Segment) (used : List ℕ) (later : Segment) (i : ℕ) → Seen k c n gs used later i → i ≡ 0

@@ -8,6 +8,8 @@ use Rattle.seglog.proofs.fits.Reads as fits
 use Rattle.seglog.proofs.fits.Kinds as fits-kinds
 use Rattle.seglog.proofs.new_log.Reads as new-log
 use Rattle.seglog.proofs.new_log.Kinds as new-log-kinds
+use Rattle.seglog.proofs.last_of.Reads as last-of
+use Rattle.seglog.proofs.last_of.Kinds as last-of-kinds
 use Rattle.seglog.proofs.live_range.Reads as live-range
 use Rattle.seglog.proofs.live_range.Kinds as live-range-kinds
 
@@ -27,3 +29,8 @@ pub live-range-unique : (κs : Lfts 0) (a : Dens κs live-range-kinds.ps) (r r�
     (e e′ : AtExit (endedOf 0 live-range-kinds.ps live-range-kinds.r) κs) → live-range.Learnt κs a r e
     → live-range.Learnt κs a r′ e′ → r ≡ r′
 live-range-unique κs a r r′ e e′ p q = p ∙ sym q
+
+-- `last_of`
+pub last-of-unique : (κs : Lfts 0) (a : Dens κs last-of-kinds.ps) (r r′ : resT last-of-kinds.r κs .Denot)
+    (e e′ : AtExit (endedOf 0 last-of-kinds.ps last-of-kinds.r) κs) → last-of.Learnt κs a r e → last-of.Learnt κs a r′ e′ → r ≡ r′
+last-of-unique κs a r r′ e e′ p q = p ∙ sym q

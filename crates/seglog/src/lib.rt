@@ -1,11 +1,12 @@
 // The log value of the segmented log (`SegmentedLog`, `Segment` of the Rust's mod.rs): fixed arrays and a count in place of a Vec.
 // Here: whether it is well shaped, a new log, the live range. append stands in seglog_append, the prunes in seglog_prune.
 ghost use mathlib.Core.Path.{_≡_};
-ghost use mathlib.Core.Bool.{_&&_};
-ghost use Prim.Native.Nat.{_+_, _%_, _≤_};
-ghost use lib.ListN.{length, take, drop};
+ghost use mathlib.Core.Bool.{_&&_, _||_};
+ghost use Prim.Native.Nat.{_+_, _-_, _*_, _%_};
+ghost use lib.ListN.{length};
 ghost use lib.Dec.{eqb, leb, ltb};
-ghost use Rattle.seglog.specs.Log.{sizesOf, segOf, zeroOf, zerosOf, chainOf, apartOf, fittingOf, noSegment, emptyOf, logOf};
+ghost use Rattle.lists.specs.Choice.{pick};
+ghost use Rattle.seglog.specs.Log.{sizesOf, segOf, zeroOf, fittingOf, noSegment, emptyOf, logOf};
 ghost use Rattle.seglog.specs.New.{newOf, rangeOf};
 
 // One listed segment: its image is the first `size` bytes of its slot.
@@ -120,59 +121,38 @@ fn follows(g: Segment, h: Segment) -> bool
     id & min
 }
 
-// Whether the unused entries are all zero.
-fn unused_zero(log: Log) -> bool
-    requires { ⌜ log .count ≤ 64 ⌝ }
-    ensures { λ r. ⌜ r ≡ zerosOf (drop (log .count) (log .segs)) ⌝ }
+// Whether K, C and M obey the rules, there is room for the segments, and the area has K x C bytes.
+fn sizes_fit(k: u64, c: u64, m: u64, count: usize, bytes: usize) -> bool
+    ensures { λ r. ⌜ r ≡ (sizesOf k c m && leb count k && eqb bytes (k * c)) ⌝ }
 {
-    let mut i: usize = log.count;
-    while i < 64 {
-        let g = log.segs[i];
-        if !is_zero(g) {
-            return false;
-        }
-        i += 1;
+    if !sizes_good(k, c, m) {
+        return false;
     }
-    true
+    let few = at_most(count as u64, k);
+    few & same(bytes as u64, k * c)
 }
 
-// Whether the listed segments go on from each other and have slots of their own: from the last to the first, with a mark for each slot seen.
-fn listed_good(log: Log) -> bool
-    requires { ⌜ (log .count ≤ log .k) × (log .k ≤ 64) ⌝ }
-    ensures { λ r. ⌜ r ≡ (chainOf (log .k) (log .c) (take (log .count) (log .segs)) && apartOf (take (log .count) (log .segs))) ⌝ }
+// What is asked of a listed segment g: good by itself, and the one listed after it, if any, goes on from it.
+fn listed_good(k: u64, c: u64, g: Segment, last: bool, later: Segment) -> bool
+    ensures { λ r. ⌜ r ≡ (segOf k c g && (last || (eqb (later .id) (g .id + 1) && eqb (later .min) (g .max + 1)))) ⌝ }
 {
-    let mut used = [0u8; 64];
-    let mut later = no_segment();
-    let mut i: usize = log.count;
-    while 0 < i {
-        let at = i - 1;
-        let g = log.segs[at];
-        let good = segment_good(log.k, log.c, g);
-        let last = same(i as u64, log.count as u64);
-        let next = follows(g, later);
-        if !(good & (last | next)) {
-            return false;
-        }
-        let slot = g.slot as usize;
-        if used[slot] != 0 {
-            return false;
-        }
-        used[slot] = 1;
-        later = g;
-        i = at;
-    }
-    true
+    let good = segment_good(k, c, g);
+    good & (last | follows(g, later))
 }
 
-// The live range begins in the first segment and ends with the last, which ends with a page.
-fn ends_good(start: u64, end: u64, first: Segment, last: Segment) -> bool
-    ensures { λ r. ⌜ r ≡ (leb (first .min) start && leb start (first .max) && eqb (last .size % 4096) 0 && eqb (last .max) end) ⌝ }
+// The live range begins in the first segment and ends with the last, which ends with a page; (0, 0) where there is no segment.
+fn ends_good(start: u64, end: u64, count: usize, first: Segment, last: Segment) -> bool
+    ensures { λ r. ⌜ r ≡ pick (eqb count 0) (eqb start 0 && eqb end 0)
+        (leb (first .min) start && leb start (first .max) && eqb (last .size % 4096) 0 && eqb (last .max) end) ⌝ }
 {
+    if count == 0 {
+        let none = same(start, 0);
+        return none & same(end, 0);
+    }
     let from = at_most(first.min, start);
     let to = at_most(start, first.max);
     let whole_pages = same(last.size % 4096, 0);
-    let newest = same(last.max, end);
-    from & to & whole_pages & newest
+    from & to & whole_pages & same(last.max, end)
 }
 
 fn no_segment() -> Segment
@@ -187,34 +167,50 @@ fn no_segment() -> Segment
     }
 }
 
-// Whether the log is well shaped and the area has K x C bytes: not refusal 2.
+// The place of the last of n entries; 0 where there is none.
+pub fn last_of(n: usize) -> usize
+    ensures { λ r. ⌜ r ≡ n - 1 ⌝ }
+{
+    if n == 0 {
+        return 0;
+    }
+    n - 1
+}
+
+// Whether the log is well shaped and the area has K x C bytes: not refusal 2. The listed entries are gone through from the last to the
+// first, with a mark for each slot seen. Both loops stand here, so that the log is not copied for them.
 pub fn fits(log: Log, bytes: usize) -> bool
     ensures { λ r. ⌜ r ≡ fittingOf log bytes ⌝ }
 {
-    if !sizes_good(log.k, log.c, log.m) {
+    if !sizes_fit(log.k, log.c, log.m, log.count, bytes) {
         return false;
     }
-    if log.k < log.count as u64 {
-        return false;
+    let mut unused: usize = log.count;
+    while unused < 64 {
+        if !is_zero(log.segs[unused]) {
+            return false;
+        }
+        unused += 1;
     }
-    if bytes as u64 != log.k * log.c {
-        return false;
+    let mut used = [0u8; 64];
+    let mut later = no_segment();
+    let mut i: usize = log.count;
+    while 0 < i {
+        let at = i - 1;
+        let g = log.segs[at];
+        if !listed_good(log.k, log.c, g, i == log.count, later) {
+            return false;
+        }
+        let slot = g.slot as usize;
+        if used[slot] != 0 {
+            return false;
+        }
+        used[slot] = 1;
+        later = g;
+        i = at;
     }
-    if !unused_zero(log) {
-        return false;
-    }
-    if !listed_good(log) {
-        return false;
-    }
-    if log.count == 0 {
-        let start = same(log.start, 0);
-        let end = same(log.end, 0);
-        return start & end;
-    }
-    let at = log.count - 1;
-    let first = log.segs[0];
-    let last = log.segs[at];
-    ends_good(log.start, log.end, first, last)
+    let at = last_of(log.count);
+    ends_good(log.start, log.end, log.count, log.segs[0], log.segs[at])
 }
 
 // A log with no segments.

@@ -61,7 +61,6 @@ use Rattle.seglog_append.specs.Append.{
   appendAnswer,
   appendArea,
 }
-use Rattle.seglog_append.specs.Store.{storedOf}
 use Rattle.seglog_append.proofs.Free.{free-most, free-good}
 
 -- the last of a chain is good
@@ -331,29 +330,42 @@ module _ (l : Log) (area p : List ℕ) (long : length (l .segs) ≡ 64) where
         unfolding sizeAfter
         grown = wrote .size-is ∙ simp written
 
-        stored-is : storedOf l (record { id = g .id; slot = g .slot; size = size; min = g .min; max = l .end + 1 }) i (l .end + 1)
-            ≡ appendAnswer l (appended (l .end + 1) (withRecord a (length p)) (recordInto a p area))
-        stored-is =
-            let x : Segment = record { id = g .id; slot = g .slot; size = size; min = g .min; max = l .end + 1 } in
-            let y : Segment = grownOf (targetOf a) (recordRoom (length p)) (l .end + 1) in
-            let same : x ≡ y = ap (λ (n : ℕ). record { id = g .id; slot = g .slot; size = n; min = g .min; max = l .end + 1 }) grown
-            ∙ ap (λ (t : Segment). grownOf t (recordRoom (length p)) (l .end + 1)) (spot .target) in
-            let segs : set (l .segs) i x ≡ entriesOf (beforeOf a ++ (y ∷ [])) =
-            spot .stores x ∙ ap (λ (t : Segment). entriesOf (beforeOf a ++ (t ∷ []))) same in
-            let count : i + 1 ≡ length (beforeOf a ++ (y ∷ [])) = omega (arith, length-append (beforeOf a) (y ∷ []), spot .before) in
-            let start : pick (eqb (l .count) 0) (l .end + 1) (l .start) ≡ startAfter a =
-            ap (λ (n : ℕ). pick (eqb n 0) (l .end + 1) (l .start)) (sym listed) in
-            λ j. record {
+        -- the entry that is stored
+        abbrev entry : Segment
+        entry = record { id = g .id; slot = g .slot; size = size; min = g .min; max = l .end + 1 }
+
+        -- the answer, as the code makes it
+        pub done-answer : (start : ℕ) → start ≡ pick (eqb (l .count) 0) (l .end + 1) (l .start)
+            → _≡_ {A = Appended}
+            (record {
               refusal = 0;
               id = l .end + 1;
-              log = record { k = l .k; c = l .c; m = l .m; start = start j; end = l .end + 1; count = count j; segs = segs j };
-            }
-
-        -- the answer
-        pub done-answer : (r : Appended)
-            → r ≡ storedOf l (record { id = g .id; slot = g .slot; size = size; min = g .min; max = l .end + 1 }) i (l .end + 1)
-            → r ≡ appendAnswer l (appendLog l area p)
-        done-answer r e = e ∙ stored-is ∙ ap (appendAnswer l) (sym (way-good small more g i spot room))
+              log = record {
+                k = l .k;
+                c = l .c;
+                m = l .m;
+                start = start;
+                end = l .end + 1;
+                count = i + 1;
+                segs = set (l .segs) i entry;
+              };
+            })
+            (appendAnswer l (appendLog l area p))
+        done-answer start e =
+            let y : Segment = grownOf (targetOf a) (recordRoom (length p)) (l .end + 1) in
+            let same : entry ≡ y =
+            ap (λ (n : ℕ). record { id = g .id; slot = g .slot; size = n; min = g .min; max = l .end + 1 }) grown
+            ∙ ap (λ (t : Segment). grownOf t (recordRoom (length p)) (l .end + 1)) (spot .target) in
+            let segs : set (l .segs) i entry ≡ entriesOf (beforeOf a ++ (y ∷ [])) =
+            spot .stores entry ∙ ap (λ (t : Segment). entriesOf (beforeOf a ++ (t ∷ []))) same in
+            let count : i + 1 ≡ length (beforeOf a ++ (y ∷ [])) = omega (arith, length-append (beforeOf a) (y ∷ []), spot .before) in
+            let begins : start ≡ startAfter a = e ∙ ap (λ (n : ℕ). pick (eqb n 0) (l .end + 1) (l .start)) (sym listed) in
+            (λ j. record {
+              refusal = 0;
+              id = l .end + 1;
+              log = record { k = l .k; c = l .c; m = l .m; start = begins j; end = l .end + 1; count = count j; segs = segs j };
+            })
+            ∙ ap (appendAnswer l) (sym (way-good small more g i spot room))
 
         -- the area
         pub done-area : after ≡ appendArea area (appendLog l area p)
@@ -369,24 +381,3 @@ refused-answer l n r o q h = h ∙ sym (ap (appendAnswer l) q)
 
 pub refused-area : (area : List ℕ) (n : ℕ) (o : Appending) → o ≡ refused n → area ≡ appendArea area o
 refused-area area n o q = sym (ap (appendArea area) q)
-
--- ---- the new log, as the code stores it
-
--- the answer that the code makes of a log whose live start is set
-abbrev pub storing : Log → Segment → ℕ → ℕ → Appended
-storing n g i id = record {
-  refusal = 0;
-  id = id;
-  log = record { k = n .k; c = n .c; m = n .m; start = n .start; end = id; count = i + 1; segs = set (n .segs) i g };
-}
-
--- a log with another live start
-abbrev pub startingAt : Log → ℕ → Log
-startingAt l s = record { k = l .k; c = l .c; m = l .m; start = s; end = l .end; count = l .count; segs = l .segs }
-
-module _ (l next : Log) (g : Segment) (i id : ℕ) where
-  pub stored-first : l .count ≡ 0 → next ≡ startingAt l id → storing next g i id ≡ storedOf l g i id
-  stored-first z e = ap (λ (n : Log). storing n g i id) e ∙ ap (λ (s : ℕ). storing (startingAt l s) g i id) (sym (simp (eq-eqb (l .count) 0 z)))
-
-  pub stored-later : (l .count ≡ 0 → ⊥) → next ≡ l → storing next g i id ≡ storedOf l g i id
-  stored-later z e = ap (λ (n : Log). storing n g i id) e ∙ ap (λ (s : ℕ). storing (startingAt l s) g i id) (sym (simp (ne-eqb (l .count) 0 z)))

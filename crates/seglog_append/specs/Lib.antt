@@ -1,2 +1,1 @@
 pub mod Append
-pub mod Store

@@ -2,13 +2,12 @@
 // A refusal comes before anything is changed; an accepted record is written through the segment's writer.
 ghost use mathlib.Core.Path.{_≡_};
 ghost use mathlib.Core.Bool.{true};
-ghost use Prim.Native.Nat.{_+_, _-_, _*_, _%_, _^_, _<_, _≤_};
+ghost use Prim.Native.Nat.{_+_, _-_, _*_, _%_, _^_, _≤_};
 ghost use lib.ListN.{take};
 ghost use lib.Dec.{eqb, leb};
 ghost use Rattle.lists.specs.Choice.{pick};
 ghost use Rattle.seglog.specs.Log.{fittingOf};
 ghost use Rattle.seglog_append.specs.Append.{freeFrom, refused, appendLog, appendAnswer, appendArea};
-ghost use Rattle.seglog_append.specs.Store.{storedOf};
 use seglog::Log;
 use seglog::Segment;
 
@@ -38,16 +37,6 @@ fn gen_segment_id(last: u32) -> u32
     ensures { λ r. ⌜ r ≡ (last + 1) % 2 ^ 32 ⌝ }
 {
     std::num::wrapping_add_u32(last, 1)
-}
-
-// The place of the last of n entries; 0 where there is none.
-fn last_of(n: usize) -> usize
-    ensures { λ r. ⌜ r ≡ n - 1 ⌝ }
-{
-    if n == 0 {
-        return 0;
-    }
-    n - 1
 }
 
 // Whether a new segment is wanted: there is none, or the head's size is the soft size or more.
@@ -84,27 +73,31 @@ fn lowest_free(log: Log) -> u32
     free
 }
 
-// The log with the record's id as its live end and g at i, the last segment; a first record is the live start too.
-fn stored(log: Log, g: Segment, i: usize, id: u64) -> Appended
-    requires { ⌜ i < 64 ⌝ }
-    ensures { λ r. ⌜ r ≡ storedOf log g i id ⌝ }
+// A new segment, before its first record.
+fn new_segment(id: u32, slot: u32, first: u64) -> Segment
+    ensures { λ r. ⌜ r ≡ record { id = id; slot = slot; size = 0; min = first; max = first } ⌝ }
 {
-    let mut next = log;
-    if log.count == 0 {
-        next.start = id;
-    }
-    next.end = id;
-    next.count = i + 1;
-    next.segs[i] = g;
-    Appended {
-        refusal: 0,
+    Segment {
         id,
-        log: next,
+        slot,
+        size: 0,
+        min: first,
+        max: first,
     }
 }
 
+// The live start with one record more: a first record sets it.
+fn start_after(count: usize, start: u64, id: u64) -> u64
+    ensures { λ r. ⌜ r ≡ pick (eqb count 0) id start ⌝ }
+{
+    if count == 0 {
+        return id;
+    }
+    start
+}
+
 // The record with the next id: refused by 2 to 7, or written behind the head or into a new segment.
-pub fn append(log: Log, area: &mut [u8], payload: &[u8]) -> Appended
+pub fn append(mut log: Log, area: &mut [u8], payload: &[u8]) -> Appended
     ensures answer { λ r. ⌜ r ≡ appendAnswer log (appendLog log (now (area .entry)) (now (payload .entry))) ⌝ }
     ensures bytes { λ _. ⌜ now (area .exit) ≡ appendArea (now (area .entry)) (appendLog log (now (area .entry)) (now (payload .entry))) ⌝ }
 {
@@ -118,7 +111,7 @@ pub fn append(log: Log, area: &mut [u8], payload: &[u8]) -> Appended
         return refuse(log, 4);
     }
     let id = log.end + 1;
-    let mut at = last_of(log.count);
+    let mut at = seglog::last_of(log.count);
     let mut target = log.segs[at];
     if opens(log.count, log.m, target.size) {
         let next = gen_segment_id(target.id);
@@ -130,24 +123,20 @@ pub fn append(log: Log, area: &mut [u8], payload: &[u8]) -> Appended
             return refuse(log, 6);
         }
         at = log.count;
-        target = Segment {
-            id: next,
-            slot,
-            size: 0,
-            min: id,
-            max: id,
-        };
+        target = new_segment(next, slot, id);
     }
     if log.c - target.size < page::writer_next_pos(12 + payload.len() as u32) {
         return refuse(log, 7);
     }
-    let size = segment_rw::append_record(area, log.c, target.slot, target.size, id, payload);
-    let grown = Segment {
-        id: target.id,
-        slot: target.slot,
-        size,
-        min: target.min,
-        max: id,
-    };
-    stored(log, grown, at, id)
+    target.size = segment_rw::append_record(area, log.c, target.slot, target.size, id, payload);
+    target.max = id;
+    log.start = start_after(log.count, log.start, id);
+    log.end = id;
+    log.count = at + 1;
+    log.segs[at] = target;
+    Appended {
+        refusal: 0,
+        id,
+        log,
+    }
 }

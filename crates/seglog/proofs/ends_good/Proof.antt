@@ -1,13 +1,10 @@
--- `ends_good` meets its contract: each test of a number is its own. Assumes nothing.
+-- `ends_good` meets its contract: each test is its own. Assumes nothing.
+use mathlib.Core.Path.{_≡_, sym}
+use native.Mathlib.Omega.{arith}
+use borrow.Author.Tests.{eq-eqb, ne-eqb}
 use borrow.Author.Needs.{needs}
 use Rattle.seglog.proofs.ends_good.Statement.{statement}
 use Rattle.seglog.proofs.ends_good.Tie as tie
-
-at-most-requires : tie.Need-at-most-requires
-at-most-requires c κs = search needs
-
-at-most-requires-2 : tie.Need-at-most-requires-2
-at-most-requires-2 c κs = search needs
 
 same-requires : tie.Need-same-requires
 same-requires c κs = search needs
@@ -16,8 +13,32 @@ same-requires-2 : tie.Need-same-requires-2
 same-requires-2 c κs = search needs
 
 returns : tie.Need-returns
-returns c = cc
+returns c = let none = eq-eqb (c .before .before .before .args .count) 0 (c .before .before .if1 .taken) in simp none (cc)
+
+at-most-requires : tie.Need-at-most-requires
+at-most-requires c κs = search needs
+
+at-most-requires-2 : tie.Need-at-most-requires-2
+at-most-requires-2 c κs = search needs
+
+same-requires-3 : tie.Need-same-requires-3
+same-requires-3 c κs = search needs
+
+same-requires-4 : tie.Need-same-requires-4
+same-requires-4 c κs = search needs
+
+returns-2 : tie.Need-returns-2
+returns-2 c = let some = ne-eqb (c .before .before .before .before .before .before .args .count) 0 (c .before .before .before .before .before .if1 .left) in simp some (cc)
 
 pub ends-good-spec : {M : Type 1} → statement M
 ends-good-spec =
-    tie.close (tie.spec at-most-requires at-most-requires-2 same-requires same-requires-2 returns)
+    tie.close
+    (tie.spec
+    same-requires
+    same-requires-2
+    returns
+    at-most-requires
+    at-most-requires-2
+    same-requires-3
+    same-requires-4
+    returns-2)

@@ -1,140 +1,221 @@
--- `fits` meets its contract: each return is a way through refusal 2's tests. Assumes nothing.
-use mathlib.Core.Path.{_≡_, sym, ap, _∙_}
-use mathlib.Core.Bool.{_&&_}
-use Prim.Native.Nat.{_≤_, _<_, _-_}
+-- `fits` meets its contract. The first loop's invariant: the answer on the unused entries is that of those from `unused` on. The
+-- second's: the segments from i on have been seen, and their slots are marked (`Seen`). The measures are the entries left. Assumes nothing.
+use mathlib.Core.Path.{_≡_, refl, sym, _∙_}
+use mathlib.Core.Bool.{true}
+use Prim.Native.Nat.{_-_}
 use native.Mathlib.Omega.{arith}
-use lib.ListN.{length}
+use lib.ListN.{length, drop}
 use borrow.Author.Tests.{not-true, not-false}
+use Rattle.seglog.specs.Log.{zerosOf}
 use Rattle.seglog.proofs.View.{unmapped}
-use Rattle.seglog.proofs.Fit.{
-  sizes-are,
-  sizes-room,
-  fit-sizes,
-  fit-many,
-  fit-length,
-  fit-dirty,
-  fit-listed,
-  fit-ends,
-  ends-some,
-  ends-none,
+use Rattle.seglog.proofs.Slots.{marksOf}
+use Rattle.seglog.proofs.Fit.{Sized, sized-is, sized-count, fit-sizes, fit-dirty, fit-listed, fit-ends, ends-by}
+use Rattle.seglog.proofs.Rows.{
+  zeros-found,
+  zeros-turn,
+  zeros-end,
+  Seen,
+  seen-none,
+  seen-slot,
+  seen-bad,
+  seen-twice,
+  seen-more,
+  seen-all,
 }
 use borrow.Author.Needs.{needs}
 use Rattle.seglog.proofs.fits.Statement.{statement}
 use Rattle.seglog.proofs.fits.Tie as tie
 
-sizes-good-requires : tie.Need-sizes-good-requires
-sizes-good-requires c κs = search needs
+abbrev Inv-loop : tie.InvT-loop
+Inv-loop bytes log unused₀ unused = Sized log bytes × (zerosOf (drop (log .count) (log .segs)) ≡ zerosOf (drop unused (log .segs)))
 
-returns : tie.Need-returns
+abbrev μ-loop : tie.MeasureT-loop
+μ-loop bytes log unused₀ unused = 64 - unused
+
+abbrev Inv-loop2 : tie.InvT-loop2
+Inv-loop2 bytes log unused used₀ later₀ i₀ used later i = Sized log bytes × (zerosOf (drop (log .count) (log .segs)) ≡ true)
+    × Seen (log .k) (log .c) (log .count) (log .segs) used later i
+
+abbrev μ-loop2 : tie.MeasureT-loop2
+μ-loop2 bytes log unused used₀ later₀ i₀ used later i = i
+
+sizes-fit-requires : tie.Need-sizes-fit-requires Inv-loop μ-loop Inv-loop2 μ-loop2
+sizes-fit-requires c κs = search needs
+
+returns : tie.Need-returns Inv-loop μ-loop Inv-loop2 μ-loop2
 returns c =
     let a = c .before .before .args in
-    let long : length (a .t1 .segs) ≡ 64 = search (needs, unmapped) in
-    fit-sizes (a .t1) (a .bytes) long (sym (c .before .sizes-good .ensures) ∙ not-true _ (c .if1 .taken))
+    fit-sizes (a .t1) (a .bytes) (search (needs, unmapped)) (sym (c .before .sizes-fit .ensures) ∙ not-true _ (c .if1 .taken))
 
-returns-2 : tie.Need-returns-2
+loop-holds : tie.Need-loop-holds Inv-loop μ-loop Inv-loop2 μ-loop2
+loop-holds c =
+    (sized-is _ _ (search (needs, unmapped)) (sym (c .before .sizes-fit .ensures) ∙ not-false _ (c .if1 .left)), refl)
+
+mul-is-zero : tie.Need-mul-is-zero Inv-loop μ-loop Inv-loop2 μ-loop2
+mul-is-zero c = search needs
+
+element-copy-out-is-zero : tie.Need-element-copy-out-is-zero Inv-loop μ-loop Inv-loop2 μ-loop2
+element-copy-out-is-zero c = search needs
+
+is-zero-requires : tie.Need-is-zero-requires Inv-loop μ-loop Inv-loop2 μ-loop2
+is-zero-requires c κs = search needs
+
+returns-2 : tie.Need-returns-2 Inv-loop μ-loop Inv-loop2 μ-loop2
 returns-2 c =
-    let a = c .before .before .before .args in
-    let long : length (a .t1 .segs) ≡ 64 = search (needs, unmapped) in
-    fit-many (a .t1) (a .bytes) long (c .if2 .taken)
+    let a = c .before .before .before .before .before .before .before .args in
+    let l = c .before .before .before .before .loop in
+    fit-dirty (a .t1) (a .bytes) (l .inv .0 .long)
+    (zeros-found (a .t1 .segs) _ (l .unused) (l .inv .1) (omega (arith, l .inv .0 .long, c .before .before .before .loop-test))
+    (sym (c .before .is-zero .ensures) ∙ not-true _ (c .if2 .taken)))
 
-mul-if3 : tie.Need-mul-if3
-mul-if3 c =
-    let a = c .before .before .before .args in
-    omega (arith, sizes-room (a .t1 .k) (a .t1 .c) (a .t1 .m) (sizes-are (a .t1 .k) (a .t1 .c) (a .t1 .m) (sym (c .before .before .sizes-good .ensures) ∙ not-false _ (c .before .if1 .left))))
+add-unused : tie.Need-add-unused Inv-loop μ-loop Inv-loop2 μ-loop2
+add-unused c = search needs
 
-returns-3 : tie.Need-returns-3
+loop-less : tie.Need-loop-less Inv-loop μ-loop Inv-loop2 μ-loop2
+loop-less c = search needs
+
+loop-again : tie.Need-loop-again Inv-loop μ-loop Inv-loop2 μ-loop2
+loop-again c =
+    let a = c .before .before .before .before .before .before .before .args in
+    let l = c .before .before .before .before .loop in (
+      l .inv .0,
+      zeros-turn (a .t1 .segs) _ (l .unused) (l .inv .1) (omega (arith, l .inv .0 .long, c .before .before .before .loop-test))
+          (sym (c .before .is-zero .ensures) ∙ not-false _ (c .if2 .left)),
+    )
+
+no-segment-requires : tie.Need-no-segment-requires Inv-loop μ-loop Inv-loop2 μ-loop2
+no-segment-requires c κs = search needs
+
+loop2-holds : tie.Need-loop2-holds Inv-loop μ-loop Inv-loop2 μ-loop2
+unfolding marksOf
+loop2-holds c =
+    let a = c .before .before .before .before .before .args in
+    let l = c .before .before .loop in (
+      l .inv .0,
+      sym (zeros-end (a .t1 .segs) _ (l .unused) (l .inv .1) (omega (arith, l .inv .0 .long))),
+      seen-none _ _ _ _ _ _ (l .inv .0 .long) (sized-count _ _ (l .inv .0)) refl,
+    )
+
+sub-at : tie.Need-sub-at Inv-loop μ-loop Inv-loop2 μ-loop2
+sub-at c = omega (arith, c .loop2-test)
+
+mul-g : tie.Need-mul-g Inv-loop μ-loop Inv-loop2 μ-loop2
+mul-g c =
+    let a = c .before .before .before .before .before .before .before .args in
+    let l = c .before .loop2 in
+    omega (arith, sized-count _ _ (l .inv .0), l .inv .2 .within, c .loop2-test)
+
+element-copy-out-g : tie.Need-element-copy-out-g Inv-loop μ-loop Inv-loop2 μ-loop2
+element-copy-out-g c =
+    let a = c .before .before .before .before .before .before .before .args in
+    let l = c .before .loop2 in
+    omega (arith, sized-count _ _ (l .inv .0), l .inv .2 .within, c .loop2-test)
+
+listed-good-requires : tie.Need-listed-good-requires Inv-loop μ-loop Inv-loop2 μ-loop2
+listed-good-requires c κs = search needs
+
+returns-3 : tie.Need-returns-3 Inv-loop μ-loop Inv-loop2 μ-loop2
 returns-3 c =
-    let a = c .before .before .before .before .args in
-    let long : length (a .t1 .segs) ≡ 64 = search (needs, unmapped) in
-    fit-length (a .t1) (a .bytes) long (c .if3 .taken)
+    let a = c .before .before .before .before .before .before .before .before .before .before .args in
+    let l = c .before .before .before .before .loop2 in
+    fit-listed (a .t1) (a .bytes) (l .inv .0 .long)
+    (seen-bad (a .t1 .k) (a .t1 .c) (a .t1 .count) (a .t1 .segs) (l .used) (l .later) (l .i) (l .inv .2) (sized-count _ _ (l .inv .0)) (omega arith) _ (c .before .listed-good .ensures) (not-true _ (c .if3 .taken)))
 
-unused-zero-requires : tie.Need-unused-zero-requires
-unused-zero-requires c κs =
-    let a = c .before .before .before .before .args in
-    omega (arith, sizes-are (a .t1 .k) (a .t1 .c) (a .t1 .m) (sym (c .before .before .before .sizes-good .ensures) ∙ not-false _ (c .before .before .if1 .left)) .few-slots)
+cast-slot : tie.Need-cast-slot Inv-loop μ-loop Inv-loop2 μ-loop2
+cast-slot c = search needs
 
-returns-4 : tie.Need-returns-4
-returns-4 c =
-    let a = c .before .before .before .before .before .before .args in
-    let long : length (a .t1 .segs) ≡ 64 = search (needs, unmapped) in
-    fit-dirty (a .t1) (a .bytes) long (sym (c .before .unused-zero .ensures) ∙ not-true _ (c .if4 .taken))
-
-listed-good-requires : tie.Need-listed-good-requires
-listed-good-requires c κs =
-    let a = c .before .before .before .before .before .before .args in
-    (omega arith, sizes-are (a .t1 .k) (a .t1 .c) (a .t1 .m) (sym (c .before .before .before .before .before .sizes-good .ensures) ∙ not-false _ (c .before .before .before .before .if1 .left)) .few-slots)
-
-returns-5 : tie.Need-returns-5
-returns-5 c =
-    let a = c .before .before .before .before .before .before .before .before .args in
-    let long : length (a .t1 .segs) ≡ 64 = search (needs, unmapped) in
-    fit-listed (a .t1) (a .bytes) long (sym (c .before .listed-good .ensures) ∙ not-true _ (c .if5 .taken))
-
-same-requires : tie.Need-same-requires
-same-requires c κs = search needs
-
-same-requires-2 : tie.Need-same-requires-2
-same-requires-2 c κs = search needs
-
-returns-6 : tie.Need-returns-6
-returns-6 c =
+array-read-if4 : tie.Need-array-read-if4 Inv-loop μ-loop Inv-loop2 μ-loop2
+array-read-if4 c =
     let a = c .before .before .before .before .before .before .before .before .before .before .before .args in
-    let long : length (a .t1 .segs) ≡ 64 = search (needs, unmapped) in
-    let same-start = c .before .same .ensures in
-    let same-end = c .same2 .ensures in
-    fit-ends (a .t1) (a .bytes) long _ (sym (c .before .before .before .before .before .before .before .before .before .before .sizes-good .ensures) ∙ not-false _ (c .before .before .before .before .before .before .before .before .before .if1 .left)) (omega arith) (omega arith)
-    (sym (c .before .before .before .before .before .before .unused-zero .ensures) ∙ not-false _ (c .before .before .before .before .before .if4 .left))
-    (sym (c .before .before .before .before .listed-good .ensures) ∙ not-false _ (c .before .before .before .if5 .left))
-    (cc (ends-none (a .t1 .count) (a .t1 .segs) (a .t1 .start) (a .t1 .end) (omega arith)))
+    let l = c .before .before .before .before .before .loop2 in
+    omega (arith, seen-slot (a .t1 .k) (a .t1 .c) (a .t1 .count) (a .t1 .segs) (l .used) (l .later) (l .i) (l .inv .2) (sized-count _ _ (l .inv .0)) (omega arith) _ (c .before .before .listed-good .ensures) (not-false _ (c .before .if3 .left)) (l .inv .0 .sizes .few-slots))
 
-sub-at : tie.Need-sub-at
-sub-at c = search needs
+returns-4 : tie.Need-returns-4 Inv-loop μ-loop Inv-loop2 μ-loop2
+returns-4 c =
+    let a = c .before .before .before .before .before .before .before .before .before .before .before .before .args in
+    let l = c .before .before .before .before .before .before .loop2 in
+    fit-listed (a .t1) (a .bytes) (l .inv .0 .long)
+    (seen-twice (a .t1 .k) (a .t1 .c) (a .t1 .count) (a .t1 .segs) (l .used) (l .later) (l .i) (l .inv .2) (sized-count _ _ (l .inv .0)) (omega arith) _ (c .before .before .before .listed-good .ensures) (not-false _ (c .before .before .if3 .left)) (l .inv .0 .sizes .few-slots) (c .if4 .taken))
 
-element-copy-out-first : tie.Need-element-copy-out-first
-element-copy-out-first c = search needs
+array-write-used : tie.Need-array-write-used Inv-loop μ-loop Inv-loop2 μ-loop2
+array-write-used c =
+    let a = c .before .before .before .before .before .before .before .before .before .before .before .before .args in
+    let l = c .before .before .before .before .before .before .loop2 in
+    omega (arith, seen-slot (a .t1 .k) (a .t1 .c) (a .t1 .count) (a .t1 .segs) (l .used) (l .later) (l .i) (l .inv .2) (sized-count _ _ (l .inv .0)) (omega arith) _ (c .before .before .before .listed-good .ensures) (not-false _ (c .before .before .if3 .left)) (l .inv .0 .sizes .few-slots))
 
-mul-last : tie.Need-mul-last
-mul-last c =
-    let a = c .before .before .before .before .before .before .before .before .before .before .args in
-    omega (arith, sizes-are (a .t1 .k) (a .t1 .c) (a .t1 .m) (sym (c .before .before .before .before .before .before .before .before .before .sizes-good .ensures) ∙ not-false _ (c .before .before .before .before .before .before .before .before .if1 .left)) .few-slots)
+loop2-less : tie.Need-loop2-less Inv-loop μ-loop Inv-loop2 μ-loop2
+loop2-less c = search needs
 
-element-copy-out-last : tie.Need-element-copy-out-last
-element-copy-out-last c =
-    let a = c .before .before .before .before .before .before .before .before .before .before .args in
-    omega (arith, sizes-are (a .t1 .k) (a .t1 .c) (a .t1 .m) (sym (c .before .before .before .before .before .before .before .before .before .sizes-good .ensures) ∙ not-false _ (c .before .before .before .before .before .before .before .before .if1 .left)) .few-slots)
+loop2-again : tie.Need-loop2-again Inv-loop μ-loop Inv-loop2 μ-loop2
+loop2-again c =
+    let a = c .before .before .before .before .before .before .before .before .before .before .before .before .args in
+    let l = c .before .before .before .before .before .before .loop2 in
+    (l .inv .0, l .inv .1, seen-more (a .t1 .k) (a .t1 .c) (a .t1 .count) (a .t1 .segs) (l .used) (l .later) (l .i) (l .inv .2) (sized-count _ _ (l .inv .0)) (omega arith) _ (c .before .before .before .listed-good .ensures) (not-false _ (c .before .before .if3 .left)) (l .inv .0 .sizes .few-slots) (c .if4 .left))
 
-ends-good-requires : tie.Need-ends-good-requires
+last-of-requires : tie.Need-last-of-requires Inv-loop μ-loop Inv-loop2 μ-loop2
+last-of-requires c κs = search needs
+
+element-copy-out-ends-good : tie.Need-element-copy-out-ends-good Inv-loop μ-loop Inv-loop2 μ-loop2
+element-copy-out-ends-good c = search needs
+
+mul-ends-good : tie.Need-mul-ends-good Inv-loop μ-loop Inv-loop2 μ-loop2
+mul-ends-good c =
+    let a = c .before .before .before .before .before .before .before .before .before .args in
+    let l = c .before .before .before .loop2 in
+    omega (arith, sized-count _ _ (l .inv .0), c .before .last-of .ensures)
+
+element-copy-out-ends-good-2 :
+    tie.Need-element-copy-out-ends-good-2 Inv-loop μ-loop Inv-loop2 μ-loop2
+element-copy-out-ends-good-2 c =
+    let a = c .before .before .before .before .before .before .before .before .before .args in
+    let l = c .before .before .before .loop2 in
+    omega (arith, sized-count _ _ (l .inv .0), c .before .last-of .ensures)
+
+ends-good-requires : tie.Need-ends-good-requires Inv-loop μ-loop Inv-loop2 μ-loop2
 ends-good-requires c κs = search needs
 
-returns-7 : tie.Need-returns-7
-returns-7 c =
-    let a = c .before .before .before .before .before .before .before .before .before .before .before .before .args in
-    let long : length (a .t1 .segs) ≡ 64 = search (needs, unmapped) in
-    let few = sizes-are (a .t1 .k) (a .t1 .c) (a .t1 .m) (sym (c .before .before .before .before .before .before .before .before .before .before .before .sizes-good .ensures) ∙ not-false _ (c .before .before .before .before .before .before .before .before .before .before .if1 .left)) .few-slots in
-    fit-ends (a .t1) (a .bytes) long _ (sym (c .before .before .before .before .before .before .before .before .before .before .before .sizes-good .ensures) ∙ not-false _ (c .before .before .before .before .before .before .before .before .before .before .if1 .left)) (omega arith) (omega arith)
-    (sym (c .before .before .before .before .before .before .before .unused-zero .ensures) ∙ not-false _ (c .before .before .before .before .before .before .if4 .left))
-    (sym (c .before .before .before .before .before .listed-good .ensures) ∙ not-false _ (c .before .before .before .before .if5 .left))
-    (c .ends-good .ensures ∙ ends-some (a .t1 .count) (a .t1 .segs) (a .t1 .start) (a .t1 .end) long (omega arith) (omega arith))
+returns-5 : tie.Need-returns-5 Inv-loop μ-loop Inv-loop2 μ-loop2
+returns-5 c =
+    let a = c .before .before .before .before .before .before .before .before .before .before .before .args in
+    let l = c .before .before .before .before .before .loop2 in
+    fit-ends (a .t1) (a .bytes) _ (l .inv .0) (l .inv .1)
+    (seen-all (a .t1 .k) (a .t1 .c) (a .t1 .count) (a .t1 .segs) (l .used) (l .later) (l .i) (l .inv .2) (omega arith))
+    (c .ends-good .ensures ∙ ends-by (a .t1) (a .bytes) _ (l .inv .0) (c .before .before .before .last-of .ensures))
 
 pub fits-spec : {M : Type 1} → statement M
 fits-spec =
     tie.close
     (tie.spec
-    sizes-good-requires
+    Inv-loop
+    μ-loop
+    Inv-loop2
+    μ-loop2
+    sizes-fit-requires
     returns
+    loop-holds
+    mul-is-zero
+    element-copy-out-is-zero
+    is-zero-requires
     returns-2
-    mul-if3
-    returns-3
-    unused-zero-requires
-    returns-4
-    listed-good-requires
-    returns-5
-    same-requires
-    same-requires-2
-    returns-6
+    add-unused
+    loop-less
+    loop-again
+    no-segment-requires
+    loop2-holds
     sub-at
-    element-copy-out-first
-    mul-last
-    element-copy-out-last
+    mul-g
+    element-copy-out-g
+    listed-good-requires
+    returns-3
+    cast-slot
+    array-read-if4
+    returns-4
+    array-write-used
+    loop2-less
+    loop2-again
+    last-of-requires
+    element-copy-out-ends-good
+    mul-ends-good
+    element-copy-out-ends-good-2
     ends-good-requires
-    returns-7)
+    returns-5)

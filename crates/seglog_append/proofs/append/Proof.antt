@@ -36,12 +36,13 @@ use Rattle.seglog_append.proofs.append.Reads as reads
 use Rattle.seglog_append.proofs.append.Lts as lts
 use Rattle.page.proofs.writer_next_pos.Reads as writer-next-pos-reads
 use Rattle.seglog.proofs.fits.Reads as fits-reads
+use Rattle.seglog.proofs.last_of.Reads as last-of-reads
 use Rattle.seglog_append.proofs.gen_segment_id.Reads as gen-segment-id-reads
-use Rattle.seglog_append.proofs.last_of.Reads as last-of-reads
 use Rattle.seglog_append.proofs.lowest_free.Reads as lowest-free-reads
+use Rattle.seglog_append.proofs.new_segment.Reads as new-segment-reads
 use Rattle.seglog_append.proofs.opens.Reads as opens-reads
 use Rattle.seglog_append.proofs.refuse.Reads as refuse-reads
-use Rattle.seglog_append.proofs.stored.Reads as stored-reads
+use Rattle.seglog_append.proofs.start_after.Reads as start-after-reads
 use Rattle.segment_rw.proofs.append_record.Reads as append-record-reads
 
 -- behind refusal 4
@@ -59,12 +60,14 @@ Behind4 = lts.Else3 (
   gen-segment-id-reads.Learnt,
   lowest-free-reads.Asked,
   lowest-free-reads.Learnt,
+  new-segment-reads.Asked,
+  new-segment-reads.Learnt,
   writer-next-pos-reads.Asked,
   writer-next-pos-reads.Learnt,
   append-record-reads.Asked,
   append-record-reads.Learnt,
-  stored-reads.Asked,
-  stored-reads.Learnt,
+  start-after-reads.Asked,
+  start-after-reads.Learnt,
 ) reads.Pre reads.Post
 
 -- what is known there
@@ -91,12 +94,14 @@ Met = lts.Joined4 (
   gen-segment-id-reads.Learnt,
   lowest-free-reads.Asked,
   lowest-free-reads.Learnt,
+  new-segment-reads.Asked,
+  new-segment-reads.Learnt,
   writer-next-pos-reads.Asked,
   writer-next-pos-reads.Learnt,
   append-record-reads.Asked,
   append-record-reads.Learnt,
-  stored-reads.Asked,
-  stored-reads.Learnt,
+  start-after-reads.Asked,
+  start-after-reads.Learnt,
 ) reads.Pre reads.Post
 
 -- where the record goes
@@ -109,7 +114,7 @@ spot c =
     by-new (a .t1) (a .area .now) (a .payload .now) (k .long) (k .fits) (c .if4 .target) (c .if4 .at) (w .1 .result) (w .3 .result)
     (sym (opens-by (a .t1) (a .area .now) (a .payload .now) (k .long) (k .fits) _ (c .before .before .before .last-of .ensures) _ (c .before .opens .ensures)) ∙ w .0 .taken)
     (next-by (a .t1) (a .area .now) (a .payload .now) (k .long) (k .fits) _ (c .before .before .before .last-of .ensures) _ (w .1 .ensures))
-    (w .2 .left) (w .3 .ensures) (w .4 .left) (w .5) (w .6))
+    (w .2 .left) (w .3 .ensures) (w .4 .left) (w .6) (w .7 ∙ w .5 .ensures))
     (λ w.
     by-head (a .t1) (a .area .now) (a .payload .now) (k .long) (k .fits) _ (c .before .before .before .last-of .ensures) (c .if4 .target) (c .if4 .at)
     (sym (opens-by (a .t1) (a .area .now) (a .payload .now) (k .long) (k .fits) _ (c .before .before .before .last-of .ensures) _ (c .before .opens .ensures)) ∙ w .0 .left)
@@ -206,6 +211,9 @@ returns-5 c =
     (λ z. c .before .before .before .if5 .left (next-by (a .t1) (a .area .now) (a .payload .now) (k .long) (k .fits) _ (c .before .before .before .before .before .before .before .before .last-of .ensures) _ (c .before .before .before .before .gen-segment-id .ensures) ∙ z)) (sym (c .before .before .lowest-free .ensures) ∙ c .before .if6 .taken) in
     (refused-answer (a .t1) 6 _ _ why (c .refuse5 .ensures), refused-area (a .area .now) 6 _ why)
 
+new-segment-requires : tie.Need-new-segment-requires
+new-segment-requires c κs = search needs
+
 sub-if7 : tie.Need-sub-if7
 sub-if7 c = omega (arith, spot (c .before) .size)
 
@@ -233,8 +241,17 @@ returns-6 c =
 append-record-requires : tie.Need-append-record-requires
 append-record-requires c κs = search needs
 
-stored-requires : tie.Need-stored-requires
-stored-requires c κs = spot (c .before .before .before .before .before .before .before) .few
+start-after-requires : tie.Need-start-after-requires
+start-after-requires c κs = search needs
+
+add-log : tie.Need-add-log
+add-log c = omega (arith, spot (c .before .before .before .before .before .before .before .before .before) .few)
+
+mul-target-2 : tie.Need-mul-target-2
+mul-target-2 c = omega (arith, spot (c .before .before .before .before .before .before .before .before .before) .few)
+
+element-set-from-target : tie.Need-element-set-from-target
+element-set-from-target c = omega (arith, spot (c .before .before .before .before .before .before .before .before .before) .few)
 
 same-length : tie.Need-same-length
 same-length c = search needs
@@ -242,13 +259,13 @@ same-length c = search needs
 returns-7 : tie.Need-returns-7
 unfolding recordRoom
 returns-7 c =
-    let a = c .before .before .before .before .before .before .before .before .before .before .before .before .before .before .before .before .before .before .args in
-    let k = past (c .before .before .before .before .before .before .before .before .before .before .before .before) in
-    let wrote = c .before .before .before .append-record .ensures in
-    let room : recordRoom (length (a .payload .now)) ≤ a .t1 .c - c .before .before .before .before .before .before .before .before .if4 .target .size =
-    omega (arith, c .before .before .before .before .before .if7 .left, c .before .before .before .before .before .before .writer-next-pos .ensures) in (
-      done-answer (a .t1) (a .area .now) (a .payload .now) (k .long) (k .fits) (k .small) (k .more) (c .before .before .before .before .before .before .before .before .if4 .target) (c .before .before .before .before .before .before .before .before .if4 .at) (spot (c .before .before .before .before .before .before .before .before)) room _ _ wrote _ (c .stored .ensures),
-      done-area (a .t1) (a .area .now) (a .payload .now) (k .long) (k .fits) (k .small) (k .more) (c .before .before .before .before .before .before .before .before .if4 .target) (c .before .before .before .before .before .before .before .before .if4 .at) (spot (c .before .before .before .before .before .before .before .before)) room _ _ wrote,
+    let a = c .before .before .before .before .before .before .before .before .before .before .before .before .before .before .before .before .before .before .before .args in
+    let k = past (c .before .before .before .before .before .before .before .before .before .before .before .before .before) in
+    let wrote = c .before .before .before .before .append-record .ensures in
+    let room : recordRoom (length (a .payload .now)) ≤ a .t1 .c - c .before .before .before .before .before .before .before .before .before .if4 .target .size =
+    omega (arith, c .before .before .before .before .before .before .if7 .left, c .before .before .before .before .before .before .before .writer-next-pos .ensures) in (
+      done-answer (a .t1) (a .area .now) (a .payload .now) (k .long) (k .fits) (k .small) (k .more) (c .before .before .before .before .before .before .before .before .before .if4 .target) (c .before .before .before .before .before .before .before .before .before .if4 .at) (spot (c .before .before .before .before .before .before .before .before .before)) room _ _ wrote _ (c .before .start-after .ensures),
+      done-area (a .t1) (a .area .now) (a .payload .now) (k .long) (k .fits) (k .small) (k .more) (c .before .before .before .before .before .before .before .before .before .if4 .target) (c .before .before .before .before .before .before .before .before .before .if4 .at) (spot (c .before .before .before .before .before .before .before .before .before)) room _ _ wrote,
     )
 
 pub append-spec : {M : Type 1} → statement M
@@ -274,6 +291,7 @@ append-spec =
     cast-if6
     refuse-requires-5
     returns-5
+    new-segment-requires
     sub-if7
     cast-writer-next-pos
     add-writer-next-pos
@@ -281,6 +299,9 @@ append-spec =
     refuse-requires-6
     returns-6
     append-record-requires
-    stored-requires
+    start-after-requires
+    add-log
+    mul-target-2
+    element-set-from-target
     same-length
     returns-7)
