@@ -2,8 +2,10 @@
 // The image rows are read once, into an array by value; everything else works on that.
 ghost use mathlib.Core.Path.{_≡_};
 ghost use Prim.Native.Nat.{_<_};
+ghost use lib.ListN.{length, take};
 ghost use Rattle.recovery.specs.Rows.{noRows, tooMany, putRow, rowsOf, listedOf};
-ghost use Rattle.recovery.specs.Recovery.{refused, recoveryAnswer, RecoveryDid};
+ghost use Rattle.recovery.specs.Recovery.{refused, scanned, recoveryOf, recoveryAnswer, RecoveryDid};
+ghost use Rattle.recovery.specs.Kept.{ScanPre};
 use recovery_walk::ImageRow;
 use seglog::Log;
 use seglog::Segment;
@@ -104,4 +106,21 @@ fn refusal(number: u32) -> Recovered
         rows: 0,
         log,
     }
+}
+
+// The scan of sorted rows, and what it leaves: 16 to 23, else the log of the kept segments.
+fn scan(k: u64, c: u64, m: u64, area: &mut [u8], sorted: Rows, s: u64, e: u64, index: &mut [u64]) -> Recovered
+    requires { ⌜ ScanPre k c m (now area) sorted s e ⌝ }
+    ensures { λ r. ⌜ RecoveryDid
+        (scanned k c m (now (area .entry)) (take (sorted .count) (sorted .rows)) s e (length (now (index .entry))))
+        (now (area .entry)) (now (index .entry)) r (now (area .exit)) (now (index .exit)) ⌝ }
+{
+    let count = sorted.count;
+    let entries = sorted.rows;
+    let found = recovery_walk::scan_images(&area[..], c, count, entries, s, e, index);
+    let fault = found.fault;
+    if fault != 0 {
+        return refusal(fault);
+    }
+    kept::close(k, c, m, area, s, e, count, found)
 }
