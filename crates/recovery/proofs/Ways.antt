@@ -414,3 +414,42 @@ module _ (k c m : ℕ) (area : List ℕ) (images-in : Rows) (s e : ℕ) (index :
                 ∙ sym (ap (recoveryArea area) done);
             words = did .words ∙ ap (λ (o : Outcome). indexOf words o index) (w .out) ∙ sym (ap (recoveryIndex index) done);
           }
+
+-- ---- joined: a new log was asked for first, and gave the area back as it was
+
+pub did-back : (o : Recovery) (area area₁ index : List ℕ) (r : Recovered) → area₁ ≡ area → RecoveryDid o area index r area index
+    → RecoveryDid o area index r area₁ index
+did-back o area area₁ index r same h = subst (λ (z : List ℕ). RecoveryDid o area index r z index) (sym same) h
+
+pub did-scan : (k c m : ℕ) (area area₁ index : List ℕ) (rs ss : List ImageRow) (s e room : ℕ) (o : Recovery) (r : Recovered)
+    (area′ index′ : List ℕ) → area₁ ≡ area → rs ≡ ss → o ≡ scanned k c m area ss s e room
+    → RecoveryDid (scanned k c m area₁ rs s e room) area₁ index r area′ index′ → RecoveryDid o area index r area′ index′
+did-scan k c m area area₁ index rs ss s e room o r area′ index′ same sorted is h =
+    subst (λ (q : Recovery). RecoveryDid q area index r area′ index′) (sym is)
+    (subst (λ (l : List ImageRow). RecoveryDid (scanned k c m area l s e room) area index r area′ index′) sorted
+    (subst (λ (z : List ℕ). RecoveryDid (scanned k c m z rs s e room) z index r area′ index′) same h))
+
+-- the rows of the array that the sort gives
+pub sorted-is : (r q : Rows) → q ≡ sortedOf r → r .count ≤ 64 → length (r .rows) ≡ 64 → take (q .count) (q .rows) ≡ sortRows (listedOf r)
+sorted-is r q is few long = ap (λ (z : Rows). take (z .count) (z .rows)) is ∙ sorted-take r few long
+
+-- an array's rows that fit are 64 at most
+pub fit-few : (k c : ℕ) (r : Rows) → length (r .rows) ≡ 64 → rowsFit k c (listedOf r) ≡ true → r .count ≤ 64
+fit-few k c r long h = omega (arith, fit-is k c (listedOf r) h .few, listed-long r long)
+
+-- what the scan asks, from the tests before it
+pub scan-asks : (k c m : ℕ) (area area₁ : List ℕ) (r q : Rows) (s e : ℕ) → area₁ ≡ area → q ≡ sortedOf r → length (r .rows) ≡ 64
+    → roomyOf k c m (length area) ≡ true → s ≤ e → (s ≡ 0 → ⊥) → rowsFit k c (listedOf r) ≡ true
+    → lowestZero (sortRows (listedOf r)) ≡ false → oneApart (sortRows (listedOf r)) ≡ true → ScanPre k c m area₁ q s e
+scan-asks k c m area area₁ r q s e same is long roomy order some fit low apart =
+    let few = fit-few k c r long fit in
+    let rows = sorted-is r q is few long in
+    record {
+      roomy = ap (λ (z : List ℕ). roomyOf k c m (length z)) same ∙ roomy;
+      order = order;
+      some = some;
+      few = omega (arith, ap (λ (z : Rows). z .count) is);
+      inside = ap (rowsInside k c) rows ∙ sort-inside k c (listedOf r) (fit-is k c (listedOf r) fit .inside);
+      low = ap lowestZero rows ∙ low;
+      apart = ap oneApart rows ∙ apart;
+    }

@@ -124,3 +124,41 @@ fn scan(k: u64, c: u64, m: u64, area: &mut [u8], sorted: Rows, s: u64, e: u64, i
     }
     kept::close(k, c, m, area, s, e, count, found)
 }
+
+// Recovers the records s to e from the images of the rows, which stand in an array: 1, 11 to 15, then the scan.
+pub fn recover_rows(k: u64, c: u64, m: u64, area: &mut [u8], rows: Rows, s: u64, e: u64, index: &mut [u64]) -> Recovered
+    ensures { λ r. ⌜ RecoveryDid
+        (recoveryOf k c m (now (area .entry)) (listedOf rows) s e (length (now (index .entry))))
+        (now (area .entry)) (now (index .entry)) r (now (area .exit)) (now (index .exit)) ⌝ }
+{
+    let fresh = seglog::new_log(k, c, m, area);
+    let number = fresh.refusal;
+    if number != 0 {
+        return refusal(number);
+    }
+    if images::one_zero(s, e) {
+        return refusal(11);
+    }
+    if e < s {
+        return refusal(12);
+    }
+    if !images::fit(k, c, rows) {
+        return refusal(13);
+    }
+    let sorted = images::sort(rows);
+    if images::lowest_zero(sorted) {
+        return refusal(14);
+    }
+    if !images::one_apart(sorted) {
+        return refusal(15);
+    }
+    if s == 0 {
+        let log = fresh.log;
+        return Recovered {
+            refusal: 0,
+            rows: 0,
+            log,
+        };
+    }
+    scan(k, c, m, area, sorted, s, e, index)
+}
