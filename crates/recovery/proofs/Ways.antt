@@ -42,6 +42,7 @@ use Rattle.recovery.specs.Recovery.{
   closedAt,
   paddedHead,
   outcomeOf,
+  scanned,
   oneZero,
   recoveryOf,
   recoveryAnswer,
@@ -49,7 +50,7 @@ use Rattle.recovery.specs.Recovery.{
   recoveryIndex,
   RecoveryDid,
 }
-use Rattle.recovery.specs.Kept.{closedView, ClosePre, CloseDid}
+use Rattle.recovery.specs.Kept.{ScanPre, closedView, ClosePre, CloseDid}
 use Rattle.recovery.proofs.Fit.{listed-few, listed-long}
 use Rattle.recovery.proofs.Order.{sort-length, sort-inside, sort-apart, inside-at}
 use Rattle.recovery.proofs.Walked.{HeadGood, Runs, IdsFrom, ids-from, images-tell}
@@ -267,64 +268,68 @@ module _ (k c m : ℕ) (area : List ℕ) (rows : List ImageRow) (s e room : ℕ)
               way-empty h = simp (roomy, range, le-ltb e s order, fit, low, apart, eq-eqb s 0 h)
 
               -- else the scan of the sorted rows
-              pub way-scan : (s ≡ 0 → ⊥) → found ≡ outcomeOf k c m area s e (sortRows rows) (scanOf area c s e (sortRows rows) room)
+              pub way-scan : (s ≡ 0 → ⊥) → found ≡ scanned k c m area (sortRows rows) s e room
               unfolding recoveryOf
               way-scan h = simp (roomy, range, le-ltb e s order, fit, low, apart, ne-eqb s 0 h)
 
 -- ---- what each way ensures
 
-module _ (k c m : ℕ) (area : List ℕ) (rows : List ImageRow) (s e : ℕ) (index : List ℕ) where
-  abbrev answer-of : Recovery
-  answer-of = recoveryOf k c m area rows s e (length index)
+-- a refusal: its number, and nothing changed
+pub did-refused : (o : Recovery) (area index : List ℕ) (n : ℕ) (r : Recovered) → r ≡ recoveryAnswer (refused n) → o ≡ refused n
+    → RecoveryDid o area index r area index
+did-refused o area index n r p q =
+    record {
+      answer = p ∙ sym (ap recoveryAnswer q);
+      bytes = sym (ap (recoveryArea area) q);
+      words = sym (ap (recoveryIndex index) q);
+    }
 
-  -- a refusal: its number, and nothing changed
-  pub did-refused : (n : ℕ) (r : Recovered) → r ≡ recoveryAnswer (refused n) → answer-of ≡ refused n
-      → RecoveryDid k c m area rows s e index r area index
-  did-refused n r p q =
-      record {
-        answer = p ∙ sym (ap recoveryAnswer q);
-        bytes = sym (ap (recoveryArea area) q);
-        words = sym (ap (recoveryIndex index) q);
-      }
+-- the range (0, 0): the empty log, and nothing changed
+pub did-empty : (o : Recovery) (k c m : ℕ) (area index : List ℕ) (r : Recovered) → r ≡ record { refusal = 0; rows = 0; log = logOf (emptyOf k c m) }
+    → o ≡ recovered (emptyOf k c m) area [] → RecoveryDid o area index r area index
+did-empty o k c m area index r p q =
+    record {
+      answer = p ∙ sym (ap recoveryAnswer q);
+      bytes = sym (ap (recoveryArea area) q);
+      words = sym (ap (recoveryIndex index) q);
+    }
 
-  -- the range (0, 0): the empty log, and nothing changed
-  pub did-empty : (r : Recovered) → r ≡ record { refusal = 0; rows = 0; log = logOf (emptyOf k c m) }
-      → answer-of ≡ recovered (emptyOf k c m) area [] → RecoveryDid k c m area rows s e index r area index
-  did-empty r p q =
-      record {
-        answer = p ∙ sym (ap recoveryAnswer q);
-        bytes = sym (ap (recoveryArea area) q);
-        words = sym (ap (recoveryIndex index) q);
-      }
+-- what the walk asks of an array's rows
+pub walk-asks : (k c m : ℕ) (area : List ℕ) (images-in : Rows) (s e : ℕ) → ScanPre k c m area images-in s e → length (images-in .rows) ≡ 64
+    → WalkPre area c (images-in .count) (images-in .rows)
+walk-asks k c m area images-in s e pre full =
+    let room = roomy-is k c m (length area) (pre .roomy) in
+    walk-pre area k c (images-in .count) (images-in .rows) (take (images-in .count) (images-in .rows)) (room .obey .few-slots)
+    (room .obey .at-most) (room .all) (pre .few) refl
+    (sym (length-take-le (images-in .count) (images-in .rows) (omega (arith, pre .few)))) (pre .inside)
 
-  -- the scan of n entries, the first of which are the sorted rows
-  module _ (n : ℕ) (entries : List ImageRow) (is : take n entries ≡ sortRows rows) (many : n ≡ length (sortRows rows))
-      (index′ : List ℕ) (r : Scanned) (did : ScanDid area c s e n entries index index′ r)
-      (on : answer-of ≡ outcomeOf k c m area s e (sortRows rows) (scanOf area c s e (sortRows rows) (length index))) where
-    abbrev outcome : Outcome
-    outcome = scanOf area c s e (sortRows rows) (length index)
+-- the scan of an array's rows
+module _ (k c m : ℕ) (area : List ℕ) (images-in : Rows) (s e : ℕ) (index : List ℕ) (pre : ScanPre k c m area images-in s e) (full : length (images-in .rows) ≡ 64)
+    (index′ : List ℕ) (r : Scanned) where
+  abbrev n : ℕ
+  n = images-in .count
 
-    scan-answer : r ≡ scannedOf outcome
-    scan-answer = did .answer ∙ ap (λ (l : List ImageRow). scannedOf (scanOf area c s e l (length index))) is
+  abbrev rs : List ImageRow
+  rs = take (images-in .count) (images-in .rows)
 
-    scan-words : index′ ≡ indexOf (rowsAll area c s e (sortRows rows) penOf) outcome index
-    scan-words =
-        did .words
-        ∙ ap (λ (l : List ImageRow). indexOf (rowsAll area c s e l penOf) (scanOf area c s e l (length index)) index) is
+  abbrev outcome : Outcome
+  outcome = scanOf area c s e rs (length index)
 
+  module _ (did : ScanDid area c s e n (images-in .rows) index index′ r) where
     -- 16 to 23
     pub did-fault : (x : Recovered) → (r .fault ≡ 0 → ⊥) → x ≡ recoveryAnswer (refused (r .fault))
-        → RecoveryDid k c m area rows s e index x area index′
+        → RecoveryDid (scanned k c m area rs s e (length index)) area index x area index′
     unfolding indexOf
     did-fault x h p = by outcome refl
       where
-        by : (o : Outcome) → outcome ≡ o → RecoveryDid k c m area rows s e index x area index′
+        by : (o : Outcome) → outcome ≡ o → RecoveryDid (scanned k c m area rs s e (length index)) area index x area index′
         by (Walk.refused j) q =
-            let number : r .fault ≡ j = ap (λ (y : Scanned). y .fault) (scan-answer ∙ ap scannedOf q) in
-            let stays : index′ ≡ index = scan-words ∙ ap (λ (o : Outcome). indexOf (rowsAll area c s e (sortRows rows) penOf) o index) q in
-            subst (λ (z : List ℕ). RecoveryDid k c m area rows s e index x area z) (sym stays)
-            (did-refused j x (p ∙ ap (λ (y : ℕ). recoveryAnswer (refused y)) number) (on ∙ ap (outcomeOf k c m area s e (sortRows rows)) q))
-        by (Walk.walked d gs) q = absurd (h (ap (λ (y : Scanned). y .fault) (scan-answer ∙ ap scannedOf q)))
+            let number : r .fault ≡ j = ap (λ (y : Scanned). y .fault) (did .answer ∙ ap scannedOf q) in
+            let stays : index′ ≡ index = did .words ∙ ap (λ (o : Outcome). indexOf (rowsAll area c s e rs penOf) o index) q in
+            subst (λ (z : List ℕ). RecoveryDid (scanned k c m area rs s e (length index)) area index x area z) (sym stays)
+            (did-refused (scanned k c m area rs s e (length index)) area index j x
+            (p ∙ ap (λ (y : ℕ). recoveryAnswer (refused y)) number) (ap (outcomeOf k c m area s e rs) q))
+        by (Walk.walked d gs) q = absurd (h (ap (λ (y : Scanned). y .fault) (did .answer ∙ ap scannedOf q)))
 
     -- a scan without a fault
     pub record NoFault : Type 0 where
@@ -337,42 +342,43 @@ module _ (k c m : ℕ) (area : List ℕ) (rows : List ImageRow) (s e : ℕ) (ind
       where
         by : (o : Outcome) → outcome ≡ o → NoFault
         by (Walk.refused j) q =
-            absurd (scan-number area c s e (sortRows rows) (length index) j q (sym (ap (λ (y : Scanned). y .fault) (scan-answer ∙ ap scannedOf q)) ∙ h))
+            absurd (scan-number area c s e rs (length index) j q (sym (ap (λ (y : Scanned). y .fault) (did .answer ∙ ap scannedOf q)) ∙ h))
         by (Walk.walked d gs) q =
-            let same = scan-answer ∙ ap scannedOf q in
+            let same = did .answer ∙ ap scannedOf q in
             record {
               gs = gs;
               out = q ∙ ap (λ (y : Scan). Walk.walked y gs) (sym (ap (λ (y : Scanned). y .scan) same));
               segs = ap (λ (y : Scanned). y .segs) same;
             }
 
-    module _ (w : NoFault) where
-      went : Accepted area c s e (sortRows rows) (r .scan) (w .gs)
-      went = scan-accepted area c s e (sortRows rows) (length index) (r .scan) (w .gs) (w .out)
+    module _ (h : r .fault ≡ 0) where
+      abbrev w : NoFault
+      w = no-fault h
+
+      went : Accepted area c s e rs (r .scan) (w .gs)
+      went = scan-accepted area c s e rs (length index) (r .scan) (w .gs) (w .out)
 
       -- the segments that were found are the first n entries
       listed : take n (r .segs) ≡ w .gs
       listed =
           let long : length (w .gs) ≡ n =
-          slots-length (sortRows rows) (w .gs) (images-slots area c s e (sortRows rows) false startOf (r .scan) (w .gs) (went .walk)) ∙ sym many in
+          slots-length rs (w .gs) (images-slots area c s e rs false startOf (r .scan) (w .gs) (went .walk))
+          ∙ length-take-le n (images-in .rows) (omega (arith, pre .few)) in
           ap (take n) (w .segs) ∙ take-at (w .gs) (replicate (64 - length (w .gs)) noSegment) n long
 
       -- what closing asks
-      pub close-pre : roomyOf k c m (length area) ≡ true → s ≤ e → (s ≡ 0 → ⊥) → rowsFit k c rows ≡ true → lowestZero (sortRows rows) ≡ false
-          → oneApart (sortRows rows) ≡ true → ClosePre c n (r .scan .head) (keptOf s e (take n (r .segs)))
-      close-pre roomy order some fit low apart =
-          let room = roomy-is k c m (length area) roomy in
-          let rows-fit = fit-is k c rows fit in
-          let ids = ids-are (sortRows rows) low apart in
-          let sorted = sort-length rows in
-          let keeps = scan-keeps area k c s e (ids .i) (sortRows rows) (r .scan) (w .gs) (room .all) (room .obey .whole-pages) order some
-          (sort-inside k c rows (rows-fit .inside)) (ids .from) went in
+      pub close-pre : ClosePre c n (r .scan .head) (keptOf s e (take n (r .segs)))
+      close-pre =
+          let room = roomy-is k c m (length area) (pre .roomy) in
+          let ids = ids-are rs (pre .low) (pre .apart) in
+          let keeps = scan-keeps area k c s e (ids .i) rs (r .scan) (w .gs) (room .all) (room .obey .whole-pages) (pre .order) (pre .some)
+          (pre .inside) (ids .from) went in
           let cut = keeps .whole .cut in
           let last = runs-last k c (keeps .whole .j) (keeps .whole .b) (cut .hs) (cut .g) (cut .runs) in
           let head : headOf (keptOf s e (w .gs)) ≡ cut .g = ap headOf (cut .is) ∙ head-snoc (cut .hs) (cut .g) in
           subst (λ (l : List Segment). ClosePre c n (r .scan .head) (keptOf s e l)) (sym listed)
           (record {
-            few = omega (arith, many, sorted, rows-fit .few);
+            few = pre .few;
             small = omega (arith, room .obey .at-most);
             some = omega (arith, ap length (cut .is), length-append (cut .hs) (cut .g ∷ []));
             slot = omega (arith, ap (λ (z : Segment). z .slot) head, last .0, room .obey .few-slots);
@@ -382,15 +388,16 @@ module _ (k c m : ℕ) (area : List ℕ) (rows : List ImageRow) (s e : ℕ) (ind
 
       -- accepted: what closing did is what recovery says
       pub did-close : (x : Recovered) (area′ : List ℕ) → CloseDid k c m s e r (keptOf s e (take n (r .segs))) area area′ x
-          → RecoveryDid k c m area rows s e index x area′ index′
+          → RecoveryDid (scanned k c m area rs s e (length index)) area index x area′ index′
       unfolding indexOf
       did-close x area′ closed =
-          let words : List ℕ = rowsAll area c s e (sortRows rows) penOf in
-          let done : answer-of ≡ recovered (closedView k c m s e (r .scan .head) (keptOf s e (w .gs)))
-          (paddedHead c area (headOf (keptOf s e (w .gs))) (r .scan .head)) words =
-          on ∙ ap (outcomeOf k c m area s e (sortRows rows)) (w .out) in
+          let words : List ℕ = rowsAll area c s e rs penOf in
+          let done : scanned k c m area rs s e (length index)
+          ≡ recovered (closedView k c m s e (r .scan .head) (keptOf s e (w .gs))) (paddedHead c area (headOf (keptOf s e (w .gs))) (r .scan .head))
+          words =
+          ap (outcomeOf k c m area s e rs) (w .out) in
           let live : r .scan .live ≡ length words / 4 =
-          omega (arith, walk-counts area c s e (sortRows rows) false startOf (r .scan) (w .gs) [] (went .walk)) in
+          omega (arith, walk-counts area c s e rs false startOf (r .scan) (w .gs) [] (went .walk)) in
           record {
             answer = closed .answer
                 ∙ ap (λ (l : List Segment). record {
@@ -405,5 +412,44 @@ module _ (k c m : ℕ) (area : List ℕ) (rows : List ImageRow) (s e : ℕ) (ind
                 }) live ∙ sym (ap recoveryAnswer done);
             bytes = closed .bytes ∙ ap (λ (l : List Segment). paddedHead c area (headOf (keptOf s e l)) (r .scan .head)) listed
                 ∙ sym (ap (recoveryArea area) done);
-            words = scan-words ∙ ap (λ (o : Outcome). indexOf words o index) (w .out) ∙ sym (ap (recoveryIndex index) done);
+            words = did .words ∙ ap (λ (o : Outcome). indexOf words o index) (w .out) ∙ sym (ap (recoveryIndex index) done);
           }
+
+-- ---- joined: a new log was asked for first, and gave the area back as it was
+
+pub did-back : (o : Recovery) (area area₁ index : List ℕ) (r : Recovered) → area₁ ≡ area → RecoveryDid o area index r area index
+    → RecoveryDid o area index r area₁ index
+did-back o area area₁ index r same h = subst (λ (z : List ℕ). RecoveryDid o area index r z index) (sym same) h
+
+pub did-scan : (k c m : ℕ) (area area₁ index : List ℕ) (rs ss : List ImageRow) (s e room : ℕ) (o : Recovery) (r : Recovered)
+    (area′ index′ : List ℕ) → area₁ ≡ area → rs ≡ ss → o ≡ scanned k c m area ss s e room
+    → RecoveryDid (scanned k c m area₁ rs s e room) area₁ index r area′ index′ → RecoveryDid o area index r area′ index′
+did-scan k c m area area₁ index rs ss s e room o r area′ index′ same sorted is h =
+    subst (λ (q : Recovery). RecoveryDid q area index r area′ index′) (sym is)
+    (subst (λ (l : List ImageRow). RecoveryDid (scanned k c m area l s e room) area index r area′ index′) sorted
+    (subst (λ (z : List ℕ). RecoveryDid (scanned k c m z rs s e room) z index r area′ index′) same h))
+
+-- the rows of the array that the sort gives
+pub sorted-is : (r q : Rows) → q ≡ sortedOf r → r .count ≤ 64 → length (r .rows) ≡ 64 → take (q .count) (q .rows) ≡ sortRows (listedOf r)
+sorted-is r q is few long = ap (λ (z : Rows). take (z .count) (z .rows)) is ∙ sorted-take r few long
+
+-- an array's rows that fit are 64 at most
+pub fit-few : (k c : ℕ) (r : Rows) → length (r .rows) ≡ 64 → rowsFit k c (listedOf r) ≡ true → r .count ≤ 64
+fit-few k c r long h = omega (arith, fit-is k c (listedOf r) h .few, listed-long r long)
+
+-- what the scan asks, from the tests before it
+pub scan-asks : (k c m : ℕ) (area area₁ : List ℕ) (r q : Rows) (s e : ℕ) → area₁ ≡ area → q ≡ sortedOf r → length (r .rows) ≡ 64
+    → roomyOf k c m (length area) ≡ true → s ≤ e → (s ≡ 0 → ⊥) → rowsFit k c (listedOf r) ≡ true
+    → lowestZero (sortRows (listedOf r)) ≡ false → oneApart (sortRows (listedOf r)) ≡ true → ScanPre k c m area₁ q s e
+scan-asks k c m area area₁ r q s e same is long roomy order some fit low apart =
+    let few = fit-few k c r long fit in
+    let rows = sorted-is r q is few long in
+    record {
+      roomy = ap (λ (z : List ℕ). roomyOf k c m (length z)) same ∙ roomy;
+      order = order;
+      some = some;
+      few = omega (arith, ap (λ (z : Rows). z .count) is);
+      inside = ap (rowsInside k c) rows ∙ sort-inside k c (listedOf r) (fit-is k c (listedOf r) fit .inside);
+      low = ap lowestZero rows ∙ low;
+      apart = ap oneApart rows ∙ apart;
+    }

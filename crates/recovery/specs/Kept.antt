@@ -1,15 +1,29 @@
--- What closes a recovery, as the code does it: the kept segments at the front of 64 entries, and the last of them closed at e.
--- Assumes nothing.
+-- A recovery behind 1 and 11 to 15, as the code does it: what the scan asks, the kept segments at the front of 64 entries, and the last of
+-- them closed at e. Assumes nothing.
 use mathlib.Core.Path.{_≡_}
+use mathlib.Core.Bool.{true, false}
 use mathlib.Core.List.{List, [], _∷_, _++_}
 use Prim.Native.Nat.{ℕ, _-_, _^_, _≤_, _<_}
 use lib.ListN.{length, take, replicate}
 use Rattle.seglog.specs.declared.Segment.{Segment}
 use Rattle.seglog.specs.Log.{noSegment, View, logOf, headOf, frontOf}
+use Rattle.seglog.specs.New.{roomyOf}
 use Rattle.recovery_walk.specs.declared.Scanned.{Scanned}
 use Rattle.recovery.specs.declared.Recovered.{Recovered}
+use Rattle.recovery.specs.declared.Rows.{Rows}
 use Rattle.recovery.specs.declared.kept.Kept.{Kept}
+use Rattle.recovery.specs.ImageRows.{rowsInside, lowestZero, oneApart}
 use Rattle.recovery.specs.Recovery.{keptOf, closedAt, paddedHead}
+
+-- what the scan of the first rows of an array asks: 1 and 11 to 15 were not met, and the range is not (0, 0)
+pub record ScanPre (k c m : ℕ) (area : List ℕ) (images : Rows) (s e : ℕ) : Type 0 where
+  pub roomy : roomyOf k c m (length area) ≡ true
+  pub order : s ≤ e
+  pub some : s ≡ 0 → ⊥
+  pub few : images .count ≤ 64
+  pub inside : rowsInside k c (take (images .count) (images .rows)) ≡ true
+  pub low : lowestZero (take (images .count) (images .rows)) ≡ false
+  pub apart : oneApart (take (images .count) (images .rows)) ≡ true
 
 -- the kept segments, with zeros in the entries behind them
 abbrev pub keptIn : ℕ → ℕ → List Segment → Kept

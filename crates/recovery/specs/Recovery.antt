@@ -53,6 +53,10 @@ outcomeOf k c m area s e rows (Walk.refused n) = refused n
 outcomeOf k c m area s e rows (Walk.walked d gs) =
     closedOf k c m area s e (d .head) (rowsAll area c s e rows penOf) (frontOf (keptOf s e gs)) (headOf (keptOf s e gs))
 
+-- the scan of the sorted rows and what it leaves; `room` is the index's length in words
+abbrev pub scanned : (k c m : ℕ) → List ℕ → List ImageRow → (s e room : ℕ) → Recovery
+scanned k c m area rows s e room = outcomeOf k c m area s e rows (scanOf area c s e rows room)
+
 -- ---- recovery
 
 -- refusal 11: "exactly one of s, e is 0"
@@ -71,7 +75,7 @@ recoveryOf k c m area rows s e room =
     ∷ (not (oneApart (sortRows rows)) ⇒ refused 15)
     ∷ (eqb s 0 ⇒ recovered (emptyOf k c m) area [])
     ∷ [])
-    (outcomeOf k c m area s e (sortRows rows) (scanOf area c s e (sortRows rows) room))
+    (scanned k c m area (sortRows rows) s e room)
 
 -- ---- as the code answers
 
@@ -90,9 +94,8 @@ abbrev pub recoveryIndex : List ℕ → Recovery → List ℕ
 recoveryIndex index (refused n) = index
 recoveryIndex index (recovered a area words) = words ++ drop (length words) index
 
--- what recovery ensures: the answer, every byte of the area, every word of the index
-pub record RecoveryDid (k c m : ℕ) (area : List ℕ) (images : List ImageRow) (s e : ℕ) (index : List ℕ) (r : Recovered)
-    (area′ index′ : List ℕ) : Type 0 where
-  pub answer : r ≡ recoveryAnswer (recoveryOf k c m area images s e (length index))
-  pub bytes : area′ ≡ recoveryArea area (recoveryOf k c m area images s e (length index))
-  pub words : index′ ≡ recoveryIndex index (recoveryOf k c m area images s e (length index))
+-- what the outcome o ensures: the answer, every byte of the area, every word of the index
+pub record RecoveryDid (o : Recovery) (area index : List ℕ) (r : Recovered) (area′ index′ : List ℕ) : Type 0 where
+  pub answer : r ≡ recoveryAnswer o
+  pub bytes : area′ ≡ recoveryArea area o
+  pub words : index′ ≡ recoveryIndex index o

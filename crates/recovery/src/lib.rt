@@ -2,8 +2,10 @@
 // The image rows are read once, into an array by value; everything else works on that.
 ghost use mathlib.Core.Path.{_≡_};
 ghost use Prim.Native.Nat.{_<_};
+ghost use lib.ListN.{length, take};
 ghost use Rattle.recovery.specs.Rows.{noRows, tooMany, putRow, rowsOf, listedOf};
-ghost use Rattle.recovery.specs.Recovery.{refused, recoveryAnswer, RecoveryDid};
+ghost use Rattle.recovery.specs.Recovery.{refused, scanned, recoveryOf, recoveryAnswer, RecoveryDid};
+ghost use Rattle.recovery.specs.Kept.{ScanPre};
 use recovery_walk::ImageRow;
 use seglog::Log;
 use seglog::Segment;
@@ -104,4 +106,59 @@ fn refusal(number: u32) -> Recovered
         rows: 0,
         log,
     }
+}
+
+// The scan of sorted rows, and what it leaves: 16 to 23, else the log of the kept segments.
+fn scan(k: u64, c: u64, m: u64, area: &mut [u8], sorted: Rows, s: u64, e: u64, index: &mut [u64]) -> Recovered
+    requires { ⌜ ScanPre k c m (now area) sorted s e ⌝ }
+    ensures { λ r. ⌜ RecoveryDid
+        (scanned k c m (now (area .entry)) (take (sorted .count) (sorted .rows)) s e (length (now (index .entry))))
+        (now (area .entry)) (now (index .entry)) r (now (area .exit)) (now (index .exit)) ⌝ }
+{
+    let count = sorted.count;
+    let entries = sorted.rows;
+    let found = recovery_walk::scan_images(&area[..], c, count, entries, s, e, index);
+    let fault = found.fault;
+    if fault != 0 {
+        return refusal(fault);
+    }
+    kept::close(k, c, m, area, s, e, count, found)
+}
+
+// Recovers the records s to e from the images of the rows, which stand in an array: 1, 11 to 15, then the scan.
+pub fn recover_rows(k: u64, c: u64, m: u64, area: &mut [u8], rows: Rows, s: u64, e: u64, index: &mut [u64]) -> Recovered
+    ensures { λ r. ⌜ RecoveryDid
+        (recoveryOf k c m (now (area .entry)) (listedOf rows) s e (length (now (index .entry))))
+        (now (area .entry)) (now (index .entry)) r (now (area .exit)) (now (index .exit)) ⌝ }
+{
+    let fresh = seglog::new_log(k, c, m, area);
+    let number = fresh.refusal;
+    if number != 0 {
+        return refusal(number);
+    }
+    if images::one_zero(s, e) {
+        return refusal(11);
+    }
+    if e < s {
+        return refusal(12);
+    }
+    if !images::fit(k, c, rows) {
+        return refusal(13);
+    }
+    let sorted = images::sort(rows);
+    if images::lowest_zero(sorted) {
+        return refusal(14);
+    }
+    if !images::one_apart(sorted) {
+        return refusal(15);
+    }
+    if s == 0 {
+        let log = fresh.log;
+        return Recovered {
+            refusal: 0,
+            rows: 0,
+            log,
+        };
+    }
+    scan(k, c, m, area, sorted, s, e, index)
 }

@@ -1,0 +1,70 @@
+-- `recovery::scan` meets its contract: what the scan tells is enough to close the log, by the laws of proofs/Ways.antt.
+-- Assumes nothing.
+use mathlib.Core.Path.{_≡_}
+use lib.ListN.{length}
+use borrow.Author.Needs.{needs}
+use Rattle.seglog.proofs.View.{unmapped}
+use Rattle.recovery.proofs.Ways.{walk-asks, did-fault, close-pre, did-close}
+use Rattle.recovery.proofs.scan.Statement.{statement}
+use Rattle.recovery.proofs.scan.Tie as tie
+
+-- the rows' array has its length
+full : (c : tie.Start) → length (c .args .sorted .rows) ≡ 64
+full c = search (needs, unmapped)
+
+-- the start, from where the scan was
+abbrev start-of : tie.After-scan-images → tie.Start
+start-of c = c .before .before .before .before .before .before
+
+scan-images-requires : tie.Need-scan-images-requires
+scan-images-requires c κs =
+    let b = c .before .before .before .before .before in walk-asks _ _ (b .args .m) _ (b .args .sorted) _ _ (b .pre) (full b)
+
+refusal-requires : tie.Need-refusal-requires
+refusal-requires c κs = search needs
+
+same-length : tie.Need-same-length
+same-length c = search needs
+
+same-length-2 : tie.Need-same-length-2
+same-length-2 c = search needs
+
+returns : tie.Need-returns
+returns c =
+    let f = c .before .before .before .before in
+    let b = start-of f in
+    did-fault _ _ _ _ _ _ _ _ (b .pre) (full b) _ (f .scan-images .result) (f .scan-images .ensures) _ (c .before .if1 .taken) (c .refusal .ensures)
+
+close-requires : tie.Need-close-requires
+close-requires c κs =
+    let f = c .before .before .before .before in
+    let b = start-of f in
+    close-pre _ _ (b .args .m) _ _ _ _ _ (b .pre) (full b) _ (f .scan-images .result) (f .scan-images .ensures) (c .before .if1 .left)
+
+same-length-3 : tie.Need-same-length-3
+same-length-3 c = search needs
+
+same-length-4 : tie.Need-same-length-4
+same-length-4 c = search needs
+
+returns-2 : tie.Need-returns-2
+returns-2 c =
+    let e = c .before .before .before .before in
+    let f = e .before .before .before in
+    let b = start-of f in
+    did-close _ _ _ _ _ _ _ _ (b .pre) (full b) _ (f .scan-images .result) (f .scan-images .ensures) (e .if1 .left) _ _
+    (c .before .before .close .ensures)
+
+pub scan-spec : {M : Type 1} → statement M
+scan-spec =
+    tie.close
+    (tie.spec
+    scan-images-requires
+    refusal-requires
+    same-length
+    same-length-2
+    returns
+    close-requires
+    same-length-3
+    same-length-4
+    returns-2)
