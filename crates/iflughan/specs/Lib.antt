@@ -1,3 +1,4 @@
 pub mod Names
 pub mod Log
+pub mod Recover
 pub mod Deltas

@@ -6,6 +6,7 @@ use seglog::Log;
 mod deltas;
 mod log;
 mod names;
+mod recover;
 
 // A new log, a log after a prune (iflughan_logged).
 #[repr(C)]
@@ -22,6 +23,15 @@ pub struct Appended {
     pub reserved: u32,
     pub id: u64,
     pub log: Log,
+}
+
+// A row's payload: its place in the area (iflughan_part).
+#[repr(C)]
+pub struct Part {
+    pub refusal: u32,
+    pub reserved: u32,
+    pub at: u64,
+    pub length: u64,
 }
 
 // What is written: its length (iflughan_written).
