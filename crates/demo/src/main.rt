@@ -1,0 +1,100 @@
+// The main job in one run: demo [FOLDER]. Appends texts to a log, prunes it, writes the images of its segments into the folder under
+// their names, reads them back into another area, recovers the live range and writes the rows with their texts.
+// Ends with `ok ..`, or with `refused N ..` where a call was refused.
+use report::number;
+use report::say;
+use seglog::Log;
+
+const K: u64 = 4;
+
+const C: u64 = 16384;
+
+// A segment of two pages or more takes no further record.
+const M: u64 = 8192;
+
+// Says what was done, and whether it was refused.
+fn done(what: &[u8], refusal: u32, log: Log) -> bool {
+    say(what);
+    if refusal == 0 {
+        say(b": ");
+        listing::kept(log);
+        return true;
+    }
+    report::named(b": refused", refusal as u64);
+    say(b"\n");
+    false
+}
+
+// Appends a text; the log after it, which is the log before where it was refused.
+fn append(log: Log, area: &mut [u8], text: &[u8]) -> Log {
+    let appended = seglog_append::append(log, area, text);
+    say(b"append ");
+    if appended.refusal == 0 {
+        number(appended.id);
+        say(b": ");
+        say(text);
+    } else {
+        report::named(b"refused", appended.refusal as u64);
+    }
+    say(b"\n");
+    appended.log
+}
+
+// Seven texts, over four segments.
+fn archive(area: &mut [u8]) -> Log {
+    let fresh = seglog::new_log(K, C, M, &mut *area);
+    let a = append(fresh.log, &mut *area, b"scan 1001, chest, series 1");
+    let b = append(a, &mut *area, b"scan 1001, chest, series 2");
+    let c = append(b, &mut *area, b"scan 1002, knee, series 1");
+    let d = append(c, &mut *area, b"scan 1003, skull, series 1");
+    let e = append(d, &mut *area, b"scan 1003, skull, series 2");
+    let f = append(e, &mut *area, b"scan 1004, hand, series 1");
+    append(f, area, b"scan 1004, hand, series 1, taken for another patient's")
+}
+
+// Recovers s..e from the folder's files, over an area that held nothing.
+fn recover(path: &[u8], s: u64, e: u64) -> bool {
+    let mut area = [0u8; 65536];
+    let mut index = [0u64; 64];
+    let images = image_files::load(path, b"scans", image_files::find(path, b"scans", 1), &mut area, C as usize);
+    let recovered = recovery::recover_rows(K, C, M, &mut area, images, s, e, &mut index);
+    if !done(b"recover from the files", recovered.refusal, recovered.log) {
+        return false;
+    }
+    listing::rows_and_texts(recovered.log, &area, &index, recovered.rows);
+    true
+}
+
+// Writes the log's images and recovers its live range from them.
+fn written_and_recovered(path: &[u8], log: Log, area: &[u8]) -> bool {
+    image_files::remove(path, b"scans", image_files::find(path, b"scans", 1));
+    if !image_files::save(path, b"scans", listing::images_of(log), area, C as usize) {
+        say(b"the folder cannot be written\n");
+        return false;
+    }
+    recover(path, log.start, log.end)
+}
+
+fn run(path: &[u8]) -> bool {
+    let mut area = [0u8; 65536];
+    let log = archive(&mut area);
+    let whole = written_and_recovered(path, log, &area);
+    let recent = seglog_prune::prune_recent(log, &mut area, 6);
+    let rolled_back = done(b"prune recent to 6", recent.refusal, recent.log);
+    let oldest = seglog_prune::prune_oldest(recent.log, &mut area, 3);
+    let shortened = done(b"prune oldest to 3", oldest.refusal, oldest.log);
+    let again = append(oldest.log, &mut area, b"scan 1005, foot, series 1");
+    let live = written_and_recovered(path, again, &area);
+    whole & rolled_back & shortened & live
+}
+
+fn main() {
+    let mut path = io::buffer();
+    let given = os::arg(1, &mut path);
+    let good = if given == 0 { run(b".") } else { run(&path[..given]) };
+    if good {
+        say(b"ok, 7 records appended, 5 live and recovered from the files\n");
+    } else {
+        say(b"refused, see above\n");
+    }
+}

@@ -1,0 +1,90 @@
+// The slots that images need, and the first and the last record that they hold.
+use record::HeaderAnswer;
+use recovery::Rows;
+
+// The slot that an image of this size needs: whole pages, one at least; 2^31 where it is too large for any slot.
+pub(crate) fn slot_size(largest: u64) -> usize {
+    if largest == 0 {
+        return 4096;
+    }
+    if 2147483648 < largest {
+        return 2147483648;
+    }
+    ((largest + 4095) / 4096 * 4096) as usize
+}
+
+// The bytes of as many slots; one at least.
+pub(crate) fn room(count: usize, c: usize) -> usize {
+    if count == 0 {
+        return c;
+    }
+    if 64 < count {
+        return 18446744073709551615;
+    }
+    if 2147483648 < c {
+        return 18446744073709551615;
+    }
+    count * c
+}
+
+// The id of an image's first record, 0 where there is none.
+fn first_id(image: &[u8]) -> u64 {
+    let HeaderAnswer::Header(header) = record::read_header(image, 0) else {
+        return 0;
+    };
+    header.id
+}
+
+// The id of an image's last record, 0 where there is none.
+fn last_id(image: &[u8]) -> u64 {
+    let mut last: u64 = 0;
+    let mut at: usize = 0;
+    while at < image.len() {
+        let HeaderAnswer::Header(header) = record::read_header(image, at) else {
+            return last;
+        };
+        last = header.id;
+        if 1073741824 < header.length {
+            return last;
+        }
+        let left = image.len() - at;
+        let taken = page::reader_next_pos(12 + header.length) as usize;
+        if left <= taken {
+            return last;
+        }
+        if taken == 0 {
+            return last;
+        }
+        at += taken;
+    }
+    last
+}
+
+// The first record of all images, 0 where there is none.
+pub(crate) fn first_record(area: &[u8], c: usize, images: Rows) -> u64 {
+    let mut i: usize = 0;
+    while i < 64 {
+        let row = images.rows[i];
+        let id = first_id(image_files::image_of(area, c, row));
+        if id != 0 {
+            return id;
+        }
+        i += 1;
+    }
+    0
+}
+
+// The last record of all images, 0 where there is none.
+pub(crate) fn last_record(area: &[u8], c: usize, images: Rows) -> u64 {
+    let mut last: u64 = 0;
+    let mut i: usize = 0;
+    while i < 64 {
+        let row = images.rows[i];
+        let id = last_id(image_files::image_of(area, c, row));
+        if id != 0 {
+            last = id;
+        }
+        i += 1;
+    }
+    last
+}
