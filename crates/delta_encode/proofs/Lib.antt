@@ -5,4 +5,3 @@ pub mod Parse
 pub mod RoundTrip
 pub mod Orders
 pub mod Unique
-pub mod Specimens
