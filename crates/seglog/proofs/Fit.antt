@@ -88,7 +88,8 @@ pub record SegmentGood (k c : ℕ) (g : Segment) : Type 0 where
 pub seg-is : (k c : ℕ) (g : Segment) → segOf k c g ≡ true → SegmentGood k c g
 unfolding segOf
 seg-is k c g h =
-    let t5 = and-both (leb 1 (g .id) && ltb (g .slot) k && leb 1 (g .size) && leb (g .size) c && leb 1 (g .min)) (leb (g .min) (g .max)) h in
+    let t5 = and-both (leb 1 (g .id) && ltb (g .slot) k && leb 1 (g .size) && leb (g .size) c && leb 1 (g .min)) (leb (g .min)
+    (g .max)) h in
     let t4 = and-both (leb 1 (g .id) && ltb (g .slot) k && leb 1 (g .size) && leb (g .size) c) (leb 1 (g .min)) (t5 .0) in
     let t3 = and-both (leb 1 (g .id) && ltb (g .slot) k && leb 1 (g .size)) (leb (g .size) c) (t4 .0) in
     let t2 = and-both (leb 1 (g .id) && ltb (g .slot) k) (leb 1 (g .size)) (t3 .0) in

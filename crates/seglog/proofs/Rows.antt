@@ -63,7 +63,8 @@ pub record Seen (k c n : ℕ) (gs : List Segment) (used : List ℕ) (later : Seg
   pub next : i < n → later ≡ getD gs i noSegment
 
 -- none has been seen
-pub seen-none : (k c n : ℕ) (gs : List Segment) (later : Segment) (used : List ℕ) → length gs ≡ 64 → n ≤ 64 → used ≡ marksOf [] → Seen k c n gs used later n
+pub seen-none : (k c n : ℕ) (gs : List Segment) (later : Segment) (used : List ℕ) → length gs ≡ 64 → n ≤ 64 → used ≡ marksOf []
+    → Seen k c n gs used later n
 unfolding chainOf apartOf
 seen-none k c n gs later used long few e =
     let none : drop n (take n gs) ≡ [] = drop-of-length-le (take n gs) {i = n} (omega (arith, listed-length n gs long few)) in
@@ -76,7 +77,8 @@ seen-none k c n gs later used long few e =
       next = λ h. absurd (omega arith);
     }
 
-module _ (k c n : ℕ) (gs : List Segment) (used : List ℕ) (later : Segment) (i : ℕ) (seen : Seen k c n gs used later i) (few : n ≤ 64) (more : 0 < i) where
+module _ (k c n : ℕ) (gs : List Segment) (used : List ℕ) (later : Segment) (i : ℕ) (seen : Seen k c n gs used later i)
+    (few : n ≤ 64) (more : 0 < i) where
   abbrev g : Segment
   g = getD gs (i - 1) noSegment
 
@@ -129,7 +131,8 @@ module _ (k c n : ℕ) (gs : List Segment) (used : List ℕ) (later : Segment) (
         -- a good segment's slot has a mark
         pub seen-slot : g .slot < 64
         seen-slot =
-            let both = and-both (segOf k c g) (eqb i n || (eqb (later .id) (g .id + 1) && eqb (later .min) (g .max + 1))) (sym test ∙ good) in
+            let both = and-both (segOf k c g) (eqb i n || (eqb (later .id) (g .id + 1) && eqb (later .min) (g .max + 1))) (sym test
+            ∙ good) in
             omega (arith, seg-is k c g (both .0) .slot)
 
         at-slot : getD used (g .slot) 0 ≡ getD (marksOf rest) (g .slot) 0
@@ -164,4 +167,5 @@ pub seen-all : (k c n : ℕ) (gs : List Segment) (used : List ℕ) (later : Segm
     → true ≡ chainOf k c (take n gs) && apartOf (take n gs)
 seen-all k c n gs used later i seen z =
     let none : drop i (take n gs) ≡ take n gs = ap (λ (j : ℕ). drop j (take n gs)) z in
-    sym (both-and (chainOf k c (take n gs)) (apartOf (take n gs)) (ap (chainOf k c) (sym none) ∙ seen .chain) (ap apartOf (sym none) ∙ seen .apart))
+    sym (both-and (chainOf k c (take n gs)) (apartOf (take n gs)) (ap (chainOf k c) (sym none) ∙ seen .chain) (ap apartOf (sym none)
+    ∙ seen .apart))

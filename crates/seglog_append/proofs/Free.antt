@@ -87,7 +87,8 @@ pub record Marked (l : Log) (used : List ℕ) (i : ℕ) : Type 0 where
   pub within : i ≤ l .count
   pub marks : used ≡ marksOf (drop i (take (l .count) (l .segs)))
 
-pub marked-none : (l : Log) (used : List ℕ) → length (l .segs) ≡ 64 → fittingOf l (l .k * l .c) ≡ true → used ≡ marksOf [] → Marked l used (l .count)
+pub marked-none : (l : Log) (used : List ℕ) → length (l .segs) ≡ 64 → fittingOf l (l .k * l .c) ≡ true → used ≡ marksOf []
+    → Marked l used (l .count)
 marked-none l used long h e =
     let fit = fitting-is l (l .k * l .c) long h in
     let n = listed-length (l .count) (l .segs) long (omega (arith, fit .few, fit .sizes .few-slots)) in

@@ -174,7 +174,8 @@ module _ (l : Log) (area p : List ℕ) (long : length (l .segs) ≡ 64) (small-i
     where
       starts : (gs : List Segment) (g : Segment) (e s : ℕ) → g .min ≡ e → g .max ≡ e
           → (0 < length gs → (getD gs 0 noSegment .min ≤ s) × (s ≤ getD gs 0 noSegment .max))
-          → (getD (gs ++ (g ∷ [])) 0 noSegment .min ≤ pick (eqb (length gs) 0) e s) × (pick (eqb (length gs) 0) e s ≤ getD (gs ++ (g ∷ [])) 0 noSegment .max)
+          → (getD (gs ++ (g ∷ [])) 0 noSegment .min ≤ pick (eqb (length gs) 0) e s) × (pick (eqb (length gs) 0) e s ≤ getD (gs ++
+          (g ∷ [])) 0 noSegment .max)
       starts [] g e s p q h = (omega arith, omega arith)
       starts (x ∷ gs) g e s p q h =
           simp (ne-eqb (suc (length gs)) 0 (λ z. omega arith)) (h (omega arith))
@@ -193,7 +194,8 @@ module _ (l : Log) (area p : List ℕ) (long : length (l .segs) ≡ 64) (small-i
       let room : n ≤ l .c - g .size = rw o at (ok .room) in
       let start : startAfter a ≡ l .start = simp (ne-eqb (length gs) 0 (λ z. omega arith)) in
       let first = starts hs g (grownOf g n (l .end + 1)) (l .start) refl (omega (arith, ends .newest))
-      (ap (λ (x : List Segment). getD x 0 noSegment .min) (sym is)) (ap (λ (x : List Segment). getD x 0 noSegment .max) (sym is)) (ends .from) (ends .to) in
+      (ap (λ (x : List Segment). getD x 0 noSegment .min) (sym is)) (ap (λ (x : List Segment). getD x 0 noSegment .max) (sym is))
+      (ends .from) (ends .to) in
       record {
         chain = record {
           rest = last .rest;
@@ -216,7 +218,8 @@ module _ (l : Log) (area p : List ℕ) (long : length (l .segs) ≡ 64) (small-i
       }
     where
       starts : (hs : List Segment) (g x : Segment) (s : ℕ) → x .min ≡ g .min → g .max ≤ x .max
-          → getD (hs ++ (g ∷ [])) 0 noSegment .min ≡ getD gs 0 noSegment .min → getD (hs ++ (g ∷ [])) 0 noSegment .max ≡ getD gs 0 noSegment .max
+          → getD (hs ++ (g ∷ [])) 0 noSegment .min ≡ getD gs 0 noSegment .min → getD (hs ++
+          (g ∷ [])) 0 noSegment .max ≡ getD gs 0 noSegment .max
           → getD gs 0 noSegment .min ≤ s → s ≤ getD gs 0 noSegment .max
           → (getD (hs ++ (x ∷ [])) 0 noSegment .min ≤ s) × (s ≤ getD (hs ++ (x ∷ [])) 0 noSegment .max)
       starts [] g x s p q e f from to = (omega arith, omega arith)
@@ -247,7 +250,8 @@ module _ (l : Log) (area p : List ℕ) (long : length (l .segs) ≡ 64) (small-i
       splice-length (targetOf a .slot * l .c + targetOf a .size) (recordBytes (l .end + 1) p) area ∙ fit .area in
       by-test (opensOf a)
       (λ o. grown-fits gs (grownOf (freshOf a) n (l .end + 1)) (startAfter a) (grown-new o) (withRecord a (length p)) (simp o) _ all)
-      (λ o. grown-fits (frontOf gs) (grownOf (headOf gs) n (l .end + 1)) (startAfter a) (grown-head o) (withRecord a (length p)) (simp o) _ all)
+      (λ o. grown-fits (frontOf gs) (grownOf (headOf gs) n (l .end + 1)) (startAfter a) (grown-head o) (withRecord a (length p))
+      (simp o) _ all)
 
 -- well shaped in, well shaped out, whatever the outcome; the head's id is a u32
 pub append-shaped : (l : Log) (area p : List ℕ) → length (l .segs) ≡ 64 → headOf (take (l .count) (l .segs)) .id < 2 ^ 32

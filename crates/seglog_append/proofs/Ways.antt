@@ -376,7 +376,8 @@ module _ (l : Log) (area p : List ℕ) (long : length (l .segs) ≡ 64) where
             ∙ ap (appendArea area) (sym (way-good small more g i spot room))
 
 -- a refusal's answer and area
-pub refused-answer : (l : Log) (n : ℕ) (r : Appended) (o : Appending) → o ≡ refused n → r ≡ appendAnswer l (refused n) → r ≡ appendAnswer l o
+pub refused-answer : (l : Log) (n : ℕ) (r : Appended) (o : Appending) → o ≡ refused n → r ≡ appendAnswer l (refused n)
+    → r ≡ appendAnswer l o
 refused-answer l n r o q h = h ∙ sym (ap (appendAnswer l) q)
 
 pub refused-area : (area : List ℕ) (n : ℕ) (o : Appending) → o ≡ refused n → area ≡ appendArea area o

@@ -28,7 +28,9 @@ same-requires-4 : tie.Need-same-requires-4
 same-requires-4 c κs = search needs
 
 returns-2 : tie.Need-returns-2
-returns-2 c = let some = ne-eqb (c .before .before .before .before .before .before .args .count) 0 (c .before .before .before .before .before .if1 .left) in simp some (cc)
+returns-2 c =
+    let some = ne-eqb (c .before .before .before .before .before .before .args .count) 0
+    (c .before .before .before .before .before .if1 .left) in simp some (cc)
 
 pub ends-good-spec : {M : Type 1} → statement M
 ends-good-spec =

@@ -119,7 +119,8 @@ returns-3 c =
     let a = c .before .before .before .before .before .before .before .before .before .before .args in
     let l = c .before .before .before .before .loop2 in
     fit-listed (a .t1) (a .bytes) (l .inv .0 .long)
-    (seen-bad (a .t1 .k) (a .t1 .c) (a .t1 .count) (a .t1 .segs) (l .used) (l .later) (l .i) (l .inv .2) (sized-count _ _ (l .inv .0)) (omega arith) _ (c .before .listed-good .ensures) (not-true _ (c .if3 .taken)))
+    (seen-bad (a .t1 .k) (a .t1 .c) (a .t1 .count) (a .t1 .segs) (l .used) (l .later) (l .i) (l .inv .2) (sized-count _ _
+    (l .inv .0)) (omega arith) _ (c .before .listed-good .ensures) (not-true _ (c .if3 .taken)))
 
 cast-slot : tie.Need-cast-slot Inv-loop μ-loop Inv-loop2 μ-loop2
 cast-slot c = search needs
@@ -128,20 +129,32 @@ array-read-if4 : tie.Need-array-read-if4 Inv-loop μ-loop Inv-loop2 μ-loop2
 array-read-if4 c =
     let a = c .before .before .before .before .before .before .before .before .before .before .before .args in
     let l = c .before .before .before .before .before .loop2 in
-    omega (arith, seen-slot (a .t1 .k) (a .t1 .c) (a .t1 .count) (a .t1 .segs) (l .used) (l .later) (l .i) (l .inv .2) (sized-count _ _ (l .inv .0)) (omega arith) _ (c .before .before .listed-good .ensures) (not-false _ (c .before .if3 .left)) (l .inv .0 .sizes .few-slots))
+    omega (
+      arith,
+      seen-slot (a .t1 .k) (a .t1 .c) (a .t1 .count) (a .t1 .segs) (l .used) (l .later) (l .i) (l .inv .2)
+          (sized-count _ _ (l .inv .0)) (omega arith) _ (c .before .before .listed-good .ensures) (not-false _ (c .before .if3 .left))
+          (l .inv .0 .sizes .few-slots),
+    )
 
 returns-4 : tie.Need-returns-4 Inv-loop μ-loop Inv-loop2 μ-loop2
 returns-4 c =
     let a = c .before .before .before .before .before .before .before .before .before .before .before .before .args in
     let l = c .before .before .before .before .before .before .loop2 in
     fit-listed (a .t1) (a .bytes) (l .inv .0 .long)
-    (seen-twice (a .t1 .k) (a .t1 .c) (a .t1 .count) (a .t1 .segs) (l .used) (l .later) (l .i) (l .inv .2) (sized-count _ _ (l .inv .0)) (omega arith) _ (c .before .before .before .listed-good .ensures) (not-false _ (c .before .before .if3 .left)) (l .inv .0 .sizes .few-slots) (c .if4 .taken))
+    (seen-twice (a .t1 .k) (a .t1 .c) (a .t1 .count) (a .t1 .segs) (l .used) (l .later) (l .i) (l .inv .2) (sized-count _ _
+    (l .inv .0)) (omega arith) _ (c .before .before .before .listed-good .ensures) (not-false _ (c .before .before .if3 .left))
+    (l .inv .0 .sizes .few-slots) (c .if4 .taken))
 
 array-write-used : tie.Need-array-write-used Inv-loop μ-loop Inv-loop2 μ-loop2
 array-write-used c =
     let a = c .before .before .before .before .before .before .before .before .before .before .before .before .args in
     let l = c .before .before .before .before .before .before .loop2 in
-    omega (arith, seen-slot (a .t1 .k) (a .t1 .c) (a .t1 .count) (a .t1 .segs) (l .used) (l .later) (l .i) (l .inv .2) (sized-count _ _ (l .inv .0)) (omega arith) _ (c .before .before .before .listed-good .ensures) (not-false _ (c .before .before .if3 .left)) (l .inv .0 .sizes .few-slots))
+    omega (
+      arith,
+      seen-slot (a .t1 .k) (a .t1 .c) (a .t1 .count) (a .t1 .segs) (l .used) (l .later) (l .i) (l .inv .2)
+          (sized-count _ _ (l .inv .0)) (omega arith) _ (c .before .before .before .listed-good .ensures) (not-false _
+          (c .before .before .if3 .left)) (l .inv .0 .sizes .few-slots),
+    )
 
 loop2-less : tie.Need-loop2-less Inv-loop μ-loop Inv-loop2 μ-loop2
 loop2-less c = search needs
@@ -149,8 +162,13 @@ loop2-less c = search needs
 loop2-again : tie.Need-loop2-again Inv-loop μ-loop Inv-loop2 μ-loop2
 loop2-again c =
     let a = c .before .before .before .before .before .before .before .before .before .before .before .before .args in
-    let l = c .before .before .before .before .before .before .loop2 in
-    (l .inv .0, l .inv .1, seen-more (a .t1 .k) (a .t1 .c) (a .t1 .count) (a .t1 .segs) (l .used) (l .later) (l .i) (l .inv .2) (sized-count _ _ (l .inv .0)) (omega arith) _ (c .before .before .before .listed-good .ensures) (not-false _ (c .before .before .if3 .left)) (l .inv .0 .sizes .few-slots) (c .if4 .left))
+    let l = c .before .before .before .before .before .before .loop2 in (
+      l .inv .0,
+      l .inv .1,
+      seen-more (a .t1 .k) (a .t1 .c) (a .t1 .count) (a .t1 .segs) (l .used) (l .later) (l .i) (l .inv .2)
+          (sized-count _ _ (l .inv .0)) (omega arith) _ (c .before .before .before .listed-good .ensures) (not-false _
+          (c .before .before .if3 .left)) (l .inv .0 .sizes .few-slots) (c .if4 .left),
+    )
 
 last-of-requires : tie.Need-last-of-requires Inv-loop μ-loop Inv-loop2 μ-loop2
 last-of-requires c κs = search needs

@@ -17,7 +17,8 @@ empty-log-requires c κs = search needs
 returns : tie.Need-returns
 returns c =
     let a = c .before .before .before .before .args in (
-      new-sizes (a .k) (a .c) (a .m) (length (a .area .now)) _ (sym (c .before .before .sizes-good .ensures) ∙ not-true _ (c .before .if1 .taken)) (c .empty-log .ensures),
+      new-sizes (a .k) (a .c) (a .m) (length (a .area .now)) _ (sym (c .before .before .sizes-good .ensures) ∙ not-true _
+          (c .before .if1 .taken)) (c .empty-log .ensures),
       refl,
     )
 
@@ -32,7 +33,8 @@ empty-log-requires-2 c κs = search needs
 returns-2 : tie.Need-returns-2
 returns-2 c =
     let a = c .before .before .before .before .before .args in (
-      new-length (a .k) (a .c) (a .m) (length (a .area .now)) _ (sym (c .before .before .before .sizes-good .ensures) ∙ not-false _ (c .before .before .if1 .left))
+      new-length (a .k) (a .c) (a .m) (length (a .area .now)) _ (sym (c .before .before .before .sizes-good .ensures) ∙ not-false _
+          (c .before .before .if1 .left))
           (λ z. c .before .if2 .taken z) (c .empty-log2 .ensures),
       refl,
     )
@@ -43,7 +45,8 @@ empty-log-requires-3 c κs = search needs
 returns-3 : tie.Need-returns-3
 returns-3 c =
     let a = c .before .before .before .before .before .args in (
-      new-empty (a .k) (a .c) (a .m) (length (a .area .now)) _ (sym (c .before .before .before .sizes-good .ensures) ∙ not-false _ (c .before .before .if1 .left))
+      new-empty (a .k) (a .c) (a .m) (length (a .area .now)) _ (sym (c .before .before .before .sizes-good .ensures) ∙ not-false _
+          (c .before .before .if1 .left))
           (omega arith) (c .empty-log3 .ensures),
       refl,
     )

@@ -27,7 +27,8 @@ same-requires c κs = search needs
 
 returns-2 : tie.Need-returns-2
 returns-2 c =
-    let good = sym (c .before .before .before .sizes-good .ensures) ∙ not-false _ (c .before .before .if1 .left) in sym (simp (good, ← c .before .at-most .ensures, ← c .same .ensures))
+    let good = sym (c .before .before .before .sizes-good .ensures) ∙ not-false _ (c .before .before .if1 .left) in sym (simp
+    (good, ← c .before .at-most .ensures, ← c .same .ensures))
 
 pub sizes-fit-spec : {M : Type 1} → statement M
 sizes-fit-spec =

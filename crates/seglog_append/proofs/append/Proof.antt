@@ -1,14 +1,15 @@
 -- `append` meets its contract: each return is a way of its definition, and both ways to a segment meet in one place to write to.
 -- Assumes nothing.
-use mathlib.Core.Path.{_≡_, refl, sym, ap, _∙_}
-use mathlib.Core.List.{List}
-use Prim.Native.Nat.{ℕ, _+_, _-_, _≤_, _<_}
-use native.Mathlib.Omega.{arith}
+use mathlib.Core.Path.{_≡_, sym, _∙_}
 use mathlib.Core.Logic.{⊎-elim}
-use lib.ListN.{length, getD, take}
+use Prim.Native.Nat.{_-_, _≤_}
+use native.Mathlib.Omega.{arith}
+use lib.ListN.{length}
 use borrow.Author.Tests.{not-true, not-false}
 use Rattle.record.specs.Record.{recordRoom}
+use Rattle.seglog.specs.Log.{viewOf}
 use Rattle.seglog.proofs.View.{unmapped}
+use Rattle.seglog_append.specs.Append.{opensOf, nextId}
 use Rattle.seglog_append.proofs.Ways.{
   Past,
   Spot,
@@ -45,80 +46,77 @@ use Rattle.seglog_append.proofs.refuse.Reads as refuse-reads
 use Rattle.seglog_append.proofs.start_after.Reads as start-after-reads
 use Rattle.segment_rw.proofs.append_record.Reads as append-record-reads
 
+-- what is known of the calls, at every place below
+abbrev calls : lts.Claims
+calls = (
+  fits-reads.Asked,
+  fits-reads.Learnt,
+  refuse-reads.Asked,
+  refuse-reads.Learnt,
+  last-of-reads.Asked,
+  last-of-reads.Learnt,
+  opens-reads.Asked,
+  opens-reads.Learnt,
+  gen-segment-id-reads.Asked,
+  gen-segment-id-reads.Learnt,
+  lowest-free-reads.Asked,
+  lowest-free-reads.Learnt,
+  new-segment-reads.Asked,
+  new-segment-reads.Learnt,
+  writer-next-pos-reads.Asked,
+  writer-next-pos-reads.Learnt,
+  append-record-reads.Asked,
+  append-record-reads.Learnt,
+  start-after-reads.Asked,
+  start-after-reads.Learnt,
+)
+
 -- behind refusal 4
-abbrev Behind4 : Type 0
-Behind4 = lts.Else3 (
-  fits-reads.Asked,
-  fits-reads.Learnt,
-  refuse-reads.Asked,
-  refuse-reads.Learnt,
-  last-of-reads.Asked,
-  last-of-reads.Learnt,
-  opens-reads.Asked,
-  opens-reads.Learnt,
-  gen-segment-id-reads.Asked,
-  gen-segment-id-reads.Learnt,
-  lowest-free-reads.Asked,
-  lowest-free-reads.Learnt,
-  new-segment-reads.Asked,
-  new-segment-reads.Learnt,
-  writer-next-pos-reads.Asked,
-  writer-next-pos-reads.Learnt,
-  append-record-reads.Asked,
-  append-record-reads.Learnt,
-  start-after-reads.Asked,
-  start-after-reads.Learnt,
-) reads.Pre reads.Post
+past : (c : lts.Else3 calls reads.Pre reads.Post)
+    → Past (c .before .before .before .before .before .before .args .t1)
+    (c .before .before .before .before .before .before .args .area .now)
+    (c .before .before .before .before .before .before .args .payload .now)
+past c =
+    record {
+      long = search (needs, unmapped);
+      fits = sym (c .before .before .before .fits2 .ensures) ∙ not-false _ (c .before .before .if1 .left);
+      small = c .before .if2 .left;
+      more = c .if3 .left;
+    }
 
--- what is known there
-past : (c : Behind4) → Past (c .before .before .before .before .before .before .args .t1) (c .before .before .before .before .before .before .args .area .now) (c .before .before .before .before .before .before .args .payload .now)
-past c = record {
-  long = search (needs, unmapped);
-  fits = sym (c .before .before .before .fits2 .ensures) ∙ not-false _ (c .before .before .if1 .left);
-  small = c .before .if2 .left;
-  more = c .if3 .left;
-}
+-- whether a new segment is wanted
+wanted : (c : lts.After-opens calls reads.Pre reads.Post)
+    → c .opens .result ≡ opensOf (viewOf (c .before .before .before .before .before .before .before .before .before .args .t1))
+wanted c =
+    let a = c .before .before .before .before .before .before .before .before .before .args in
+    let k = past (c .before .before .before) in
+    opens-by (a .t1) (a .area .now) (a .payload .now) (k .long) (k .fits) _ (c .before .before .last-of .ensures) _ (c .opens .ensures)
 
--- where both ways to a segment meet
-abbrev Met : Type 0
-Met = lts.Joined4 (
-  fits-reads.Asked,
-  fits-reads.Learnt,
-  refuse-reads.Asked,
-  refuse-reads.Learnt,
-  last-of-reads.Asked,
-  last-of-reads.Learnt,
-  opens-reads.Asked,
-  opens-reads.Learnt,
-  gen-segment-id-reads.Asked,
-  gen-segment-id-reads.Learnt,
-  lowest-free-reads.Asked,
-  lowest-free-reads.Learnt,
-  new-segment-reads.Asked,
-  new-segment-reads.Learnt,
-  writer-next-pos-reads.Asked,
-  writer-next-pos-reads.Learnt,
-  append-record-reads.Asked,
-  append-record-reads.Learnt,
-  start-after-reads.Asked,
-  start-after-reads.Learnt,
-) reads.Pre reads.Post
+-- the id of a new segment
+next-id : (c : lts.After-gen-segment-id calls reads.Pre reads.Post)
+    → c .gen-segment-id .result
+    ≡ nextId (viewOf (c .before .before .before .before .before .before .before .before .before .before .before .args .t1) .segs)
+next-id c =
+    let a = c .before .before .before .before .before .before .before .before .before .before .before .args in
+    let k = past (c .before .before .before .before .before) in
+    next-by (a .t1) (a .area .now) (a .payload .now) (k .long) (k .fits) _
+    (c .before .before .before .before .last-of .ensures) _ (c .gen-segment-id .ensures)
 
--- where the record goes
-spot : (c : Met) → Spot (c .before .before .before .before .before .before .before .before .before .before .args .t1) (c .if4 .target) (c .if4 .at)
+-- where both ways to a segment meet: the record goes there
+spot : (c : lts.Joined4 calls reads.Pre reads.Post)
+    → Spot (c .before .before .before .before .before .before .before .before .before .before .args .t1) (c .if4 .target) (c .if4 .at)
 spot c =
     let a = c .before .before .before .before .before .before .before .before .before .before .args in
     let k = past (c .before .before .before .before) in
     ⊎-elim
     (λ w.
     by-new (a .t1) (a .area .now) (a .payload .now) (k .long) (k .fits) (c .if4 .target) (c .if4 .at) (w .1 .result) (w .3 .result)
-    (sym (opens-by (a .t1) (a .area .now) (a .payload .now) (k .long) (k .fits) _ (c .before .before .before .last-of .ensures) _ (c .before .opens .ensures)) ∙ w .0 .taken)
-    (next-by (a .t1) (a .area .now) (a .payload .now) (k .long) (k .fits) _ (c .before .before .before .last-of .ensures) _ (w .1 .ensures))
-    (w .2 .left) (w .3 .ensures) (w .4 .left) (w .6) (w .7 ∙ w .5 .ensures))
+    (sym (wanted (c .before)) ∙ w .0 .taken)
+    (next-id (record { before = record { before = c .before; if4 = w .0 }; gen-segment-id = w .1 })) (w .2 .left) (w .3 .ensures)
+    (w .4 .left) (w .6) (w .7 ∙ w .5 .ensures))
     (λ w.
-    by-head (a .t1) (a .area .now) (a .payload .now) (k .long) (k .fits) _ (c .before .before .before .last-of .ensures) (c .if4 .target) (c .if4 .at)
-    (sym (opens-by (a .t1) (a .area .now) (a .payload .now) (k .long) (k .fits) _ (c .before .before .before .last-of .ensures) _ (c .before .opens .ensures)) ∙ w .0 .left)
-    (w .1) (w .2))
+    by-head (a .t1) (a .area .now) (a .payload .now) (k .long) (k .fits) _ (c .before .before .before .last-of .ensures)
+    (c .if4 .target) (c .if4 .at) (sym (wanted (c .before)) ∙ w .0 .left) (w .1) (w .2))
     (c .if4 .came)
 
 fits-requires : tie.Need-fits-requires
@@ -131,7 +129,8 @@ returns : tie.Need-returns
 returns c =
     let a = c .before .before .before .before .before .args in
     let long : length (a .t1 .segs) ≡ 64 = search (needs, unmapped) in
-    let why = way-2 (a .t1) (a .area .now) (a .payload .now) long (sym (c .before .before .fits2 .ensures) ∙ not-true _ (c .before .if1 .taken)) in
+    let why =
+    way-2 (a .t1) (a .area .now) (a .payload .now) long (sym (c .before .before .fits2 .ensures) ∙ not-true _ (c .before .if1 .taken)) in
     (refused-answer (a .t1) 2 _ _ why (c .refuse .ensures), refused-area (a .area .now) 2 _ why)
 
 refuse-requires-2 : tie.Need-refuse-requires-2
@@ -141,7 +140,9 @@ returns-2 : tie.Need-returns-2
 returns-2 c =
     let a = c .before .before .before .before .before .before .args in
     let long : length (a .t1 .segs) ≡ 64 = search (needs, unmapped) in
-    let why = way-3 (a .t1) (a .area .now) (a .payload .now) long (sym (c .before .before .before .fits2 .ensures) ∙ not-false _ (c .before .before .if1 .left)) (c .before .if2 .taken) in
+    let why =
+    way-3 (a .t1) (a .area .now) (a .payload .now) long
+    (sym (c .before .before .before .fits2 .ensures) ∙ not-false _ (c .before .before .if1 .left)) (c .before .if2 .taken) in
     (refused-answer (a .t1) 3 _ _ why (c .refuse2 .ensures), refused-area (a .area .now) 3 _ why)
 
 refuse-requires-3 : tie.Need-refuse-requires-3
@@ -151,7 +152,11 @@ returns-3 : tie.Need-returns-3
 returns-3 c =
     let a = c .before .before .before .before .before .before .before .args in
     let long : length (a .t1 .segs) ≡ 64 = search (needs, unmapped) in
-    let why = way-4 (a .t1) (a .area .now) (a .payload .now) long (sym (c .before .before .before .before .fits2 .ensures) ∙ not-false _ (c .before .before .before .if1 .left)) (c .before .before .if2 .left) (c .before .if3 .taken) in
+    let why =
+    way-4 (a .t1) (a .area .now) (a .payload .now) long
+    (sym (c .before .before .before .before .fits2 .ensures) ∙ not-false _ (c .before .before .before .if1 .left))
+    (c .before .before .if2 .left)
+    (c .before .if3 .taken) in
     (refused-answer (a .t1) 4 _ _ why (c .refuse3 .ensures), refused-area (a .area .now) 4 _ why)
 
 add-id : tie.Need-add-id
@@ -185,10 +190,13 @@ refuse-requires-4 c κs = search needs
 
 returns-4 : tie.Need-returns-4
 returns-4 c =
-    let a = c .before .before .before .before .before .before .before .before .before .before .before .before .before .args in
-    let k = past (c .before .before .before .before .before .before .before) in
-    let why = way-5 (a .t1) (a .area .now) (a .payload .now) (k .long) (k .fits) (k .small) (k .more) (sym (opens-by (a .t1) (a .area .now) (a .payload .now) (k .long) (k .fits) _ (c .before .before .before .before .before .before .last-of .ensures) _ (c .before .before .before .before .opens .ensures)) ∙ c .before .before .before .if4 .taken)
-    (sym (next-by (a .t1) (a .area .now) (a .payload .now) (k .long) (k .fits) _ (c .before .before .before .before .before .before .last-of .ensures) _ (c .before .before .gen-segment-id .ensures)) ∙ c .before .if5 .taken) in
+    let opened = c .before .before .before .before in
+    let a = opened .before .before .before .before .before .before .before .before .before .args in
+    let k = past (opened .before .before .before) in
+    let why =
+    way-5 (a .t1) (a .area .now) (a .payload .now) (k .long) (k .fits) (k .small) (k .more)
+    (sym (wanted opened) ∙ c .before .before .before .if4 .taken)
+    (sym (next-id (c .before .before)) ∙ c .before .if5 .taken) in
     (refused-answer (a .t1) 5 _ _ why (c .refuse4 .ensures), refused-area (a .area .now) 5 _ why)
 
 lowest-free-requires : tie.Need-lowest-free-requires
@@ -205,10 +213,14 @@ refuse-requires-5 c κs = search needs
 
 returns-5 : tie.Need-returns-5
 returns-5 c =
-    let a = c .before .before .before .before .before .before .before .before .before .before .before .before .before .before .before .args in
-    let k = past (c .before .before .before .before .before .before .before .before .before) in
-    let why = way-6 (a .t1) (a .area .now) (a .payload .now) (k .long) (k .fits) (k .small) (k .more) (sym (opens-by (a .t1) (a .area .now) (a .payload .now) (k .long) (k .fits) _ (c .before .before .before .before .before .before .before .before .last-of .ensures) _ (c .before .before .before .before .before .before .opens .ensures)) ∙ c .before .before .before .before .before .if4 .taken)
-    (λ z. c .before .before .before .if5 .left (next-by (a .t1) (a .area .now) (a .payload .now) (k .long) (k .fits) _ (c .before .before .before .before .before .before .before .before .last-of .ensures) _ (c .before .before .before .before .gen-segment-id .ensures) ∙ z)) (sym (c .before .before .lowest-free .ensures) ∙ c .before .if6 .taken) in
+    let opened = c .before .before .before .before .before .before in
+    let a = opened .before .before .before .before .before .before .before .before .before .args in
+    let k = past (opened .before .before .before) in
+    let why =
+    way-6 (a .t1) (a .area .now) (a .payload .now) (k .long) (k .fits) (k .small) (k .more)
+    (sym (wanted opened) ∙ c .before .before .before .before .before .if4 .taken)
+    (λ z. c .before .before .before .if5 .left (next-id (c .before .before .before .before) ∙ z))
+    (sym (c .before .before .lowest-free .ensures) ∙ c .before .if6 .taken) in
     (refused-answer (a .t1) 6 _ _ why (c .refuse5 .ensures), refused-area (a .area .now) 6 _ why)
 
 new-segment-requires : tie.Need-new-segment-requires
@@ -232,9 +244,12 @@ refuse-requires-6 c κs = search needs
 returns-6 : tie.Need-returns-6
 unfolding recordRoom
 returns-6 c =
-    let a = c .before .before .before .before .before .before .before .before .before .before .before .before .before .before .args in
-    let k = past (c .before .before .before .before .before .before .before .before) in
-    let why = way-7 (a .t1) (a .area .now) (a .payload .now) (k .long) (k .fits) (k .small) (k .more) (c .before .before .before .before .if4 .target) (c .before .before .before .before .if4 .at) (spot (c .before .before .before .before))
+    let met = c .before .before .before .before in
+    let a = met .before .before .before .before .before .before .before .before .before .before .args in
+    let k = past (met .before .before .before .before) in
+    let why =
+    way-7 (a .t1) (a .area .now) (a .payload .now) (k .long) (k .fits)
+    (k .small) (k .more) (met .if4 .target) (met .if4 .at) (spot met)
     (omega (arith, c .before .if7 .taken, c .before .before .writer-next-pos .ensures)) in
     (refused-answer (a .t1) 7 _ _ why (c .refuse6 .ensures), refused-area (a .area .now) 7 _ why)
 
@@ -259,13 +274,18 @@ same-length c = search needs
 returns-7 : tie.Need-returns-7
 unfolding recordRoom
 returns-7 c =
-    let a = c .before .before .before .before .before .before .before .before .before .before .before .before .before .before .before .before .before .before .before .args in
-    let k = past (c .before .before .before .before .before .before .before .before .before .before .before .before .before) in
+    let met = c .before .before .before .before .before .before .before .before .before in
+    let a = met .before .before .before .before .before .before .before .before .before .before .args in
+    let k = past (met .before .before .before .before) in
     let wrote = c .before .before .before .before .append-record .ensures in
-    let room : recordRoom (length (a .payload .now)) ≤ a .t1 .c - c .before .before .before .before .before .before .before .before .before .if4 .target .size =
-    omega (arith, c .before .before .before .before .before .before .if7 .left, c .before .before .before .before .before .before .before .writer-next-pos .ensures) in (
-      done-answer (a .t1) (a .area .now) (a .payload .now) (k .long) (k .fits) (k .small) (k .more) (c .before .before .before .before .before .before .before .before .before .if4 .target) (c .before .before .before .before .before .before .before .before .before .if4 .at) (spot (c .before .before .before .before .before .before .before .before .before)) room _ _ wrote _ (c .before .start-after .ensures),
-      done-area (a .t1) (a .area .now) (a .payload .now) (k .long) (k .fits) (k .small) (k .more) (c .before .before .before .before .before .before .before .before .before .if4 .target) (c .before .before .before .before .before .before .before .before .before .if4 .at) (spot (c .before .before .before .before .before .before .before .before .before)) room _ _ wrote,
+    let padded = c .before .before .before .before .before .before .before .writer-next-pos .ensures in
+    let room : recordRoom (length (a .payload .now)) ≤ a .t1 .c - met .if4 .target .size =
+    omega (arith, c .before .before .before .before .before .before .if7 .left, padded) in (
+      done-answer (a .t1) (a .area .now) (a .payload .now) (k .long) (k .fits)
+          (k .small) (k .more) (met .if4 .target) (met .if4 .at) (spot met) room _ _ wrote _
+          (c .before .start-after .ensures),
+      done-area (a .t1) (a .area .now) (a .payload .now) (k .long) (k .fits)
+          (k .small) (k .more) (met .if4 .target) (met .if4 .at) (spot met) room _ _ wrote,
     )
 
 pub append-spec : {M : Type 1} → statement M

@@ -8,7 +8,17 @@ use lib.ListN.{length, getD, take}
 use Rattle.seglog.proofs.View.{unmapped}
 use Rattle.seglog.proofs.Slots.{marksOf, mark-none, mark-some}
 use Rattle.seglog_append.specs.Append.{freeFrom}
-use Rattle.seglog_append.proofs.Free.{Marked, marked-none, marked-slot, marked-more, marked-all, free-start, free-turn, free-found, free-none}
+use Rattle.seglog_append.proofs.Free.{
+  Marked,
+  marked-none,
+  marked-slot,
+  marked-more,
+  marked-all,
+  free-start,
+  free-turn,
+  free-found,
+  free-none,
+}
 use borrow.Author.Needs.{needs}
 use Rattle.seglog_append.proofs.lowest_free.Statement.{statement}
 use Rattle.seglog_append.proofs.lowest_free.Tie as tie
@@ -52,7 +62,11 @@ cast-slot c = search needs
 -- src/lib.rt:70:9
 array-write-used : tie.Need-array-write-used Inv-loop μ-loop Inv-loop2 μ-loop2
 array-write-used c =
-    let l = c .before .before .before .loop in omega (arith, marked-slot (c .before .before .before .before .args .t1) (l .used) (l .i) (l .inv) (omega (arith, c .before .before .loop-test)))
+    let l = c .before .before .before .loop in omega (
+      arith,
+      marked-slot (c .before .before .before .before .args .t1) (l .used)
+          (l .i) (l .inv) (omega (arith, c .before .before .loop-test)),
+    )
 
 -- src/lib.rt:66:5
 loop-less : tie.Need-loop-less Inv-loop μ-loop Inv-loop2 μ-loop2
@@ -61,7 +75,8 @@ loop-less c = search needs
 -- src/lib.rt:66:5
 loop-again : tie.Need-loop-again Inv-loop μ-loop Inv-loop2 μ-loop2
 loop-again c =
-    let l = c .before .before .before .loop in marked-more (c .before .before .before .before .args .t1) (l .used) (l .i) (l .inv) (omega (arith, c .before .before .loop-test))
+    let l = c .before .before .before .loop in marked-more (c .before .before .before .before .args .t1) (l .used) (l .i) (l .inv)
+    (omega (arith, c .before .before .loop-test))
 
 -- src/lib.rt:73:5
 loop2-holds : tie.Need-loop2-holds Inv-loop μ-loop Inv-loop2 μ-loop2
@@ -92,7 +107,8 @@ returns c =
     let log = c .before .before .before .before .before .args .t1 in
     let gs = take (log .count) (log .segs) in
     sym (l .inv .3
-    ∙ free-found (log .k) (l .free) gs (omega arith) (mark-none gs (l .free) (omega arith) (ap (λ (m : List ℕ). getD m (l .free) 0) (sym (l .inv .2)) ∙ c .if1 .taken)))
+    ∙ free-found (log .k) (l .free) gs (omega arith) (mark-none gs (l .free) (omega arith) (ap (λ (m : List ℕ). getD m (l .free) 0)
+    (sym (l .inv .2)) ∙ c .if1 .taken)))
 
 -- src/lib.rt:78:9
 add-free : tie.Need-add-free Inv-loop μ-loop Inv-loop2 μ-loop2
