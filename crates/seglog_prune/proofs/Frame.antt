@@ -13,7 +13,25 @@ use Rattle.seglog.specs.declared.Log.{Log}
 use Rattle.seglog.specs.Log.{viewOf, plainOf}
 use Rattle.seglog_prune.specs.declared.Early.{Early}
 use Rattle.seglog_prune.specs.declared.Early.the-variants.{Refused, Empty, Same, Onward}
-use Rattle.seglog_prune.specs.Prune.{Pruning, refused, pruned, pruneOf, pruneOldestOf, Cut, lost, cutAt, findCut, imageIn, paddedTo, cutOff, pruneRecentOf, oldestLog, recentLog, pruneAnswer, pruneArea}
+use Rattle.seglog_prune.specs.Prune.{
+  Pruning,
+  refused,
+  pruned,
+  pruneOf,
+  pruneOldestOf,
+  Cut,
+  lost,
+  cutAt,
+  findCut,
+  imageIn,
+  paddedTo,
+  cutOff,
+  pruneRecentOf,
+  oldestLog,
+  recentLog,
+  pruneAnswer,
+  pruneArea,
+}
 use Rattle.seglog_prune.specs.Steps.{earlyOf, outcomeOf}
 use Rattle.seglog_prune.proofs.Decide.{Inner, inner, early-decides}
 use Rattle.seglog_prune.proofs.Inside.{cutSegment, frontKept, in-range, cut-good}

@@ -21,7 +21,26 @@ use Rattle.seglog.proofs.Slots.{apart-snoc, snoc-apart}
 use Rattle.seglog.proofs.Fit.{are-sizes, fitting-is}
 use Rattle.seglog_prune.specs.declared.Early.{Early}
 use Rattle.seglog_prune.specs.declared.Early.the-variants.{Refused, Empty, Same, Onward}
-use Rattle.seglog_prune.specs.Prune.{Pruning, refused, pruned, pruneOf, dropOld, startedAt, pruneOldestOf, Cut, lost, cutAt, findCut, imageIn, endedAt, paddedTo, cutOff, pruneRecentOf, oldestLog, recentLog}
+use Rattle.seglog_prune.specs.Prune.{
+  Pruning,
+  refused,
+  pruned,
+  pruneOf,
+  dropOld,
+  startedAt,
+  pruneOldestOf,
+  Cut,
+  lost,
+  cutAt,
+  findCut,
+  imageIn,
+  endedAt,
+  paddedTo,
+  cutOff,
+  pruneRecentOf,
+  oldestLog,
+  recentLog,
+}
 use Rattle.seglog_prune.specs.Steps.{earlyOf, outcomeOf}
 use Rattle.seglog_prune.proofs.Decide.{Inner, inner, fits-plain, same-fits, empty-fits, early-decides}
 use Rattle.seglog_prune.proofs.Inside.{keptOf, cutSegment, frontKept, InRange, in-range, CutGood, cut-good}

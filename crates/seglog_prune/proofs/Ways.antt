@@ -28,7 +28,26 @@ use Rattle.seglog.proofs.View.{log-view, entriesOf, set-head, listed-length}
 use Rattle.seglog.proofs.Fit.{SegmentGood}
 use Rattle.seglog_prune.specs.declared.Early.{Early}
 use Rattle.seglog_prune.specs.declared.Early.the-variants.{Onward}
-use Rattle.seglog_prune.specs.Prune.{refused, pruned, dropOld, startedAt, pruneOldestOf, dropNew, lost, cutAt, findCut, imageIn, endedAt, paddedTo, cutOff, pruneRecentOf, oldestLog, recentLog, pruneAnswer, pruneArea}
+use Rattle.seglog_prune.specs.Prune.{
+  refused,
+  pruned,
+  dropOld,
+  startedAt,
+  pruneOldestOf,
+  dropNew,
+  lost,
+  cutAt,
+  findCut,
+  imageIn,
+  endedAt,
+  paddedTo,
+  cutOff,
+  pruneRecentOf,
+  oldestLog,
+  recentLog,
+  pruneAnswer,
+  pruneArea,
+}
 use Rattle.seglog_prune.specs.Steps.{earlyOf, settledOf, endedLog}
 use Rattle.seglog_prune.proofs.Early.{the-type}
 use Rattle.seglog_prune.proofs.Decide.{inner, plain-few, settle, onward}
