@@ -7,7 +7,7 @@ use Prim.Native.Nat.{ℕ, zero, suc, _+_, _-_, _%_, _≤_, _<_}
 use native.Mathlib.Omega.{arith}
 use lib.ListN.{length, getD, take}
 use lib.Dec.{ltb, leb, eqb}
-use borrow.Author.Tests.{leb-true, le-leb, eqb-true, eq-eqb, ltb-true, ltb-false}
+use borrow.Author.Tests.{leb-true, le-leb, eqb-true, eq-eqb, ltb-true, ltb-false, le-ltb}
 use Rattle.lists.specs.Choice.{pick}
 use Rattle.lists.proofs.Cases.{pick-either}
 use Rattle.seglog.specs.declared.Segment.{Segment}
@@ -217,3 +217,13 @@ new-low n (g ∷ gs) some = go (dropNew n gs) (new-low n gs) some
         one true e s = absurd (omega arith)
         one false e s = ltb-false n (g .min) e
     go (h ∷ hs) ih some = rw (head-more g h hs) (ih (omega arith))
+
+-- where the first segment begins at n or before, some segment stays
+pub some-stays : (n s e : ℕ) (gs : List Segment) → 0 < length gs → EndsGood s e gs → s ≤ n → 0 < length (dropNew n gs)
+unfolding dropNew
+some-stays n s e [] some ends low = absurd (omega arith)
+some-stays n s e (g ∷ gs) some ends low = go (dropNew n gs)
+  where
+    go : (hs : List Segment) → 0 < length (keepAt n g hs)
+    go [] = rw (le-ltb n (g .min) (omega (arith, ends .from))) (omega arith)
+    go (h ∷ hs) = omega arith

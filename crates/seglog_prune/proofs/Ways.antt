@@ -1,11 +1,8 @@
--- The ways of the two prunes: the tests that they share, and what each does behind them, as laws on plain values.
--- Assumes nothing.
-use mathlib.Core.Path.{_≡_, refl, sym, ap, _∙_, subst}
-use mathlib.Core.Bool.{Bool, true, false, not, _&&_}
+-- The ways of the two prunes behind the shared tests, as the code takes them. Assumes nothing.
+use mathlib.Core.Path.{_≡_, sym, ap, _∙_, subst}
+use mathlib.Core.Bool.{true}
 use mathlib.Core.List.{List, [], _∷_, _++_, append-assoc}
-use mathlib.Core.Logic.{⊎-elim}
-use Prim.Native.Nat.{ℕ, suc, _+_, _-_, _*_, _%_, _≤_, _<_}
-use native.Mathlib.Nat.{mul-le-mul-right, suc-mul}
+use Prim.Native.Nat.{ℕ, suc, _+_, _-_, _*_, _≤_, _<_}
 use native.Mathlib.Omega.{arith}
 use types.Run.{OneOf}
 use denote.Enum.Declared.{tagOf}
@@ -22,31 +19,21 @@ use lib.ListN.{
   replicate-append-replicate,
   List·getD-append,
 }
-use lib.Seq.{drop-append-le, drop-cons, take-take, getD-take, take-suc}
-use lib.Dec.{ltb, leb, eqb}
-use borrow.Author.Tests.{eq-eqb, ne-eqb, lt-ltb, le-ltb, leb-true, eqb-false, ltb-false}
-use Rattle.lists.specs.Choice.{pick}
-use Rattle.lists.proofs.Cases.{by-test}
+use lib.Seq.{drop-append-le, take-take, getD-take, take-suc}
 use Rattle.seglog.specs.declared.Segment.{Segment}
 use Rattle.seglog.specs.declared.Log.{Log}
-use Rattle.seglog.specs.Log.{noSegment, logOf, viewOf, emptyOf, headOf, frontOf, chainOf, endsOf, shapedOf, zerosOf, plainOf}
-use Rattle.seglog.specs.Log.{fitsOf, fittingOf}
+use Rattle.seglog.specs.Log.{noSegment, logOf, viewOf, headOf, frontOf, plainOf}
 use Rattle.seglog.specs.New.{accepted}
-use Rattle.seglog.proofs.Bools.{and-both}
-use Rattle.seglog.proofs.View.{log-view, entriesOf, set-head, listed-length, listed-at}
-use Rattle.seglog.proofs.Fit.{SegmentGood, sizes-room, chain-is, Fitting, fitting-is}
-use Rattle.seglog.proofs.Rows.{chain-drop}
+use Rattle.seglog.proofs.View.{log-view, entriesOf, set-head, listed-length}
+use Rattle.seglog.proofs.Fit.{SegmentGood}
 use Rattle.seglog_prune.specs.declared.Early.{Early}
-use Rattle.seglog_prune.specs.declared.Early.the-variants.{Refused, Empty, Same, Onward}
+use Rattle.seglog_prune.specs.declared.Early.the-variants.{Onward}
 use Rattle.seglog_prune.specs.Prune.{
-  Pruning,
   refused,
   pruned,
-  pruneOf,
   dropOld,
   startedAt,
   pruneOldestOf,
-  keepAt,
   dropNew,
   lost,
   cutAt,
@@ -61,169 +48,10 @@ use Rattle.seglog_prune.specs.Prune.{
   pruneAnswer,
   pruneArea,
 }
-use Rattle.seglog_prune.specs.Steps.{earlyOf, outcomeOf, settledOf, endedLog}
+use Rattle.seglog_prune.specs.Steps.{earlyOf, settledOf, endedLog}
 use Rattle.seglog_prune.proofs.Early.{the-type}
-
--- ---- the shared tests
-
-module _ (l : Log) (bytes n : ℕ) where
-  -- refusal 2
-  pub early-2 : fittingOf l bytes ≡ false → Refused 2 ≡ earlyOf l bytes n
-  unfolding earlyOf
-  early-2 f = simp f
-
-  module _ (fits : fittingOf l bytes ≡ true) where
-    -- argument 0
-    pub early-empty : n ≡ 0 → Empty ≡ earlyOf l bytes n
-    unfolding earlyOf
-    early-empty z = simp (fits, eq-eqb n 0 z)
-
-    module _ (some : n ≡ 0 → ⊥) where
-      -- an empty log
-      pub early-same : l .count ≡ 0 → Same ≡ earlyOf l bytes n
-      unfolding earlyOf
-      early-same z = simp (fits, ne-eqb n 0 some, eq-eqb (l .count) 0 z)
-
-      module _ (listed : l .count ≡ 0 → ⊥) where
-        -- refusal 8
-        pub early-8 : l .end < n → Refused 8 ≡ earlyOf l bytes n
-        unfolding earlyOf
-        early-8 h = simp (fits, ne-eqb n 0 some, ne-eqb (l .count) 0 listed, lt-ltb (l .end) n h)
-
-        -- refusal 9
-        pub early-9 : n ≤ l .end → n < l .start → Refused 9 ≡ earlyOf l bytes n
-        unfolding earlyOf
-        early-9 h g = simp (fits, ne-eqb n 0 some, ne-eqb (l .count) 0 listed, le-ltb (l .end) n h, lt-ltb n (l .start) g)
-
-        -- none of them
-        pub early-onward : n ≤ l .end → l .start ≤ n → Onward ≡ earlyOf l bytes n
-        unfolding earlyOf
-        early-onward h g = simp (fits, ne-eqb n 0 some, ne-eqb (l .count) 0 listed, le-ltb (l .end) n h, le-ltb n (l .start) g)
-
--- what the tests say where none of them decides
-pub record Inner (l : Log) (bytes n : ℕ) : Type 0 where
-  pub fits : fittingOf l bytes ≡ true
-  pub above : 0 < n
-  pub listed : 0 < l .count
-  pub upper : n ≤ l .end
-  pub lower : l .start ≤ n
-
-pub inner : (l : Log) (bytes n : ℕ) → Onward ≡ earlyOf l bytes n → Inner l bytes n
-unfolding earlyOf
-inner l bytes n e =
-    go (fittingOf l bytes) (eqb n 0) (eqb (l .count) 0) (ltb (l .end) n) (ltb n (l .start)) refl refl refl refl refl e
-  where
-    go : (t2 t0 t1 t8 t9 : Bool) → fittingOf l bytes ≡ t2 → eqb n 0 ≡ t0 → eqb (l .count) 0 ≡ t1 → ltb (l .end) n ≡ t8
-        → ltb n (l .start) ≡ t9
-        → Onward ≡ pick (not t2) (Refused 2) (pick t0 Empty (pick t1 Same (pick t8 (Refused 8) (pick t9 (Refused 9) Onward))))
-        → Inner l bytes n
-    go false t0 t1 t8 t9 e2 e0 e1 e8 e9 h = absurd (let z : _≡_ {A = ℕ} 0 1 = cc in omega arith)
-    go true true t1 t8 t9 e2 e0 e1 e8 e9 h = absurd (let z : _≡_ {A = ℕ} 0 1 = cc in omega arith)
-    go true false true t8 t9 e2 e0 e1 e8 e9 h = absurd (let z : _≡_ {A = ℕ} 0 1 = cc in omega arith)
-    go true false false true t9 e2 e0 e1 e8 e9 h = absurd (let z : _≡_ {A = ℕ} 0 1 = cc in omega arith)
-    go true false false false true e2 e0 e1 e8 e9 h = absurd (let z : _≡_ {A = ℕ} 0 1 = cc in omega arith)
-    go true false false false false e2 e0 e1 e8 e9 h =
-        record {
-          fits = e2;
-          above = omega (arith, eqb-false n 0 e0);
-          listed = omega (arith, eqb-false (l .count) 0 e1);
-          upper = ltb-false (l .end) n e8;
-          lower = ltb-false n (l .start) e9;
-        }
-
--- at most 64 segments are listed where the unused entries are zero
-pub plain-few : (l : Log) → plainOf l ≡ true → l .count ≤ 64
-unfolding plainOf
-plain-few l h = leb-true (l .count) 64 (and-both (leb (l .count) 64) (zerosOf (drop (l .count) (l .segs))) h .0)
-
--- a log that fits has zeros in its unused entries
-pub fits-plain : (l : Log) (bytes : ℕ) → fittingOf l bytes ≡ true → plainOf l ≡ true
-unfolding fittingOf
-fits-plain l bytes h = and-both (plainOf l) (shapedOf (viewOf l) && eqb bytes (l .k * l .c)) h .0
-
--- the two easy outcomes are those of logs that fit
-pub empty-fits : (l : Log) (bytes n : ℕ) → Empty ≡ earlyOf l bytes n → fittingOf l bytes ≡ true
-empty-fits l bytes n e =
-    by-test (fittingOf l bytes) (λ h. h) (λ h. let z = early-2 l bytes n h in absurd (let y : _≡_ {A = ℕ} 0 1 = cc in omega arith))
-
-pub same-fits : (l : Log) (bytes n : ℕ) → Same ≡ earlyOf l bytes n → fittingOf l bytes ≡ true
-same-fits l bytes n e =
-    by-test (fittingOf l bytes) (λ h. h) (λ h. let z = early-2 l bytes n h in absurd (let y : _≡_ {A = ℕ} 0 1 = cc in omega arith))
-
-module _ (l : Log) (area : List ℕ) (n : ℕ) (rest : Pruning) (long : length (l .segs) ≡ 64) where
-  -- a prune's outcome, with refusal 2 for dirty entries
-  abbrev outcome : Pruning
-  outcome = pick (plainOf l) (pruneOf (viewOf l) area n rest) (refused 2)
-
-  -- a prune goes by the shared tests: its outcome is that of the case, and `rest` where none decides
-  pub early-decides : outcome ≡ outcomeOf l area rest (earlyOf l (length area) n)
-  unfolding pruneOf earlyOf fittingOf fitsOf
-  early-decides = go (plainOf l) (shapedOf (viewOf l) && eqb (length area) (l .k * l .c)) refl
-    where
-      none : Pruning
-      none = pruned (emptyOf (l .k) (l .c) (l .m)) area
-
-      tests : (t0 t1 t8 t9 : Bool) → pick t0 none (pick t1 (pruned (viewOf l) area) (pick t8 (refused 8) (pick t9 (refused 9) rest)))
-          ≡ outcomeOf l area rest (pick t0 Empty (pick t1 Same (pick t8 (Refused 8) (pick t9 (Refused 9) Onward))))
-      tests true t1 t8 t9 = refl
-      tests false true t8 t9 = refl
-      tests false false true t9 = refl
-      tests false false false true = refl
-      tests false false false false = refl
-
-      count : plainOf l ≡ true → length (take (l .count) (l .segs)) ≡ l .count
-      count h = listed-length (l .count) (l .segs) long (plain-few l h)
-
-      go : (p f : Bool) → plainOf l ≡ p
-          → pick p
-          (pick (not f) (refused 2)
-          (pick (eqb n 0) none
-          (pick (eqb (length (take (l .count) (l .segs))) 0) (pruned (viewOf l) area)
-          (pick (ltb (l .end) n) (refused 8) (pick (ltb n (l .start)) (refused 9) rest)))))
-          (refused 2)
-          ≡ outcomeOf l area rest
-          (pick (not (p && f)) (Refused 2)
-          (pick (eqb n 0) Empty
-          (pick (eqb (l .count) 0) Same (pick (ltb (l .end) n) (Refused 8) (pick (ltb n (l .start)) (Refused 9) Onward)))))
-      go false f h = refl
-      go true false h = refl
-      go true true h =
-          ap
-          (λ (k : ℕ). pick (eqb n 0) none
-          (pick (eqb k 0) (pruned (viewOf l) area) (pick (ltb (l .end) n) (refused 8) (pick (ltb n (l .start)) (refused 9) rest))))
-          (count h)
-          ∙ tests (eqb n 0) (eqb (l .count) 0) (ltb (l .end) n) (ltb n (l .start))
-
-  -- where the tests decide: the answer and the area
-  pub record Settled (e : Early) : Type 0 where
-    pub answer : settledOf l e ≡ pruneAnswer l outcome
-    pub bytes : area ≡ pruneArea area outcome
-
-  pub settle : (e : Early) → e ≡ earlyOf l (length area) n → OneOf (0 ∷ 1 ∷ 2 ∷ []) (tagOf the-type e) → Settled e
-  settle e h tag = go e h tag (early-decides ∙ ap (outcomeOf l area rest) (sym h))
-    where
-      go : (e : Early) → e ≡ earlyOf l (length area) n → OneOf (0 ∷ 1 ∷ 2 ∷ []) (tagOf the-type e) → outcome ≡ outcomeOf l area rest e
-          → Settled e
-      go (Refused m) h tag o = record { answer = ap (pruneAnswer l) (sym o); bytes = ap (pruneArea area) (sym o) }
-      go Empty h tag o = record { answer = ap (pruneAnswer l) (sym o); bytes = ap (pruneArea area) (sym o) }
-      go Same h tag o =
-          let plain = fits-plain l (length area) (same-fits l (length area) n h) in
-          record { answer = ap accepted (sym (log-view l long plain)) ∙ ap (pruneAnswer l) (sym o); bytes = ap (pruneArea area) (sym o) }
-      go Onward h tag o = absurd (none-of tag)
-        where
-          none-of : OneOf (0 ∷ 1 ∷ 2 ∷ []) 3 → ⊥
-          none-of t = ⊎-elim (λ z. omega arith) (λ z. ⊎-elim (λ y. omega arith) (λ y. omega arith) z) t
-
-  -- where none decides
-  pub onward : Onward ≡ earlyOf l (length area) n → outcome ≡ rest
-  onward h = early-decides ∙ ap (outcomeOf l area rest) (sym h)
-
--- where the log given is the answer
-pub settled-given : (l : Log) (e : Early) → OneOf (2 ∷ 3 ∷ []) (tagOf the-type e) → accepted l ≡ settledOf l e
-settled-given l (Refused m) tag = absurd (⊎-elim (λ z. omega arith) (λ z. omega arith) tag)
-settled-given l Empty tag = absurd (⊎-elim (λ z. omega arith) (λ z. omega arith) tag)
-settled-given l Same tag = refl
-settled-given l Onward tag = refl
+use Rattle.seglog_prune.proofs.Decide.{inner, plain-few, settle, onward}
+use Rattle.seglog_prune.proofs.Inside.{InRange, in-range, slot-inside}
 
 -- ---- prune oldest
 
@@ -272,23 +100,6 @@ pub recent-settled : (l : Log) (area : List ℕ) (n : ℕ) → length (l .segs) 
 unfolding recentLog pruneRecentOf
 recent-settled l area n long e h tag = let s = settle l area n _ long e h tag in (s .answer, s .bytes)
 
--- where the first segment begins at n or before, some segment stays
-pub some-stays : (n s e : ℕ) (gs : List Segment) → 0 < length gs → endsOf s e gs ≡ true → s ≤ n → 0 < length (dropNew n gs)
-unfolding dropNew endsOf
-some-stays n s e [] some ends low = absurd (omega arith)
-some-stays n s e (g ∷ gs) some ends low = go (dropNew n gs)
-  where
-    first-low : g .min ≤ s
-    first-low = leb-true (g .min) s (first-test ends)
-      where
-        first-test : (leb (g .min) s && leb s (g .max) && eqb (headOf (g ∷ gs) .size % 4096) 0 && eqb (headOf (g ∷ gs) .max) e) ≡ true
-            → leb (g .min) s ≡ true
-        first-test h = and-both _ _ (and-both _ _ (and-both _ _ h .0) .0) .0
-
-    go : (hs : List Segment) → 0 < length (keepAt n g hs)
-    go [] = rw (le-ltb n (g .min) (omega (arith, first-low))) (omega arith)
-    go (h ∷ hs) = omega arith
-
 -- none of the shared tests decides, and `left` segments stay
 pub record Staying (l : Log) (area : List ℕ) (n left : ℕ) : Type 0 where
   pub long : length (l .segs) ≡ 64
@@ -297,54 +108,45 @@ pub record Staying (l : Log) (area : List ℕ) (n left : ℕ) : Type 0 where
   pub kept : dropNew n (take (l .count) (l .segs)) ≡ take left (l .segs)
 
 module _ (l : Log) (area : List ℕ) (n left : ℕ) (staying : Staying l area n left) where
-  abbrev facts : Inner l (length area) n
-  facts = inner l (length area) n (staying .onward)
-
-  long : length (l .segs) ≡ 64
-  long = staying .long
-
-  kept : dropNew n (take (l .count) (l .segs)) ≡ take left (l .segs)
-  kept = staying .kept
-
-  pub fitting : Fitting l (length area)
-  fitting = fitting-is l (length area) long (facts .fits)
+  pub range : InRange l area n
+  range = in-range l area n (staying .long) (inner l (length area) n (staying .onward))
 
   pub few-entries : l .count ≤ 64
-  few-entries = omega (arith, fitting .few, fitting .sizes .few-slots)
+  few-entries = omega (arith, range .fit .few, range .fit .sizes .few-slots)
 
   -- some segment stays
   pub left-some : 0 < left
-  left-some =
-      let listed = listed-length (l .count) (l .segs) long few-entries in
-      omega (
-        arith,
-        some-stays n (l .start) (l .end) (take (l .count) (l .segs)) (omega (arith, facts .listed)) (fitting .ends) (facts .lower),
-        ap length kept,
-        length-take left (l .segs),
-      )
+  left-some = omega (arith, range .stays, ap length (staying .kept), length-take left (l .segs))
 
   -- the segment that is cut
   abbrev head : Segment
   head = getD (l .segs) (left - 1) noSegment
 
   kept-length : length (take left (l .segs)) ≡ left
-  kept-length = length-take left (l .segs) ∙ omega (arith, long, few-entries, staying .few)
+  kept-length = length-take left (l .segs) ∙ omega (arith, staying .long, few-entries, staying .few)
 
   front-is : frontOf (dropNew n (take (l .count) (l .segs))) ≡ take (left - 1) (l .segs)
   front-is =
-      ap (λ (gs : List Segment). frontOf gs) kept ∙ ap (λ (k : ℕ). take (k - 1) (take left (l .segs))) kept-length
+      ap (λ (gs : List Segment). frontOf gs) (staying .kept) ∙ ap (λ (k : ℕ). take (k - 1) (take left (l .segs))) kept-length
       ∙ take-take (left - 1) left (l .segs) (omega arith)
 
-  head-is : headOf (dropNew n (take (l .count) (l .segs))) ≡ head
+  pub head-is : headOf (dropNew n (take (l .count) (l .segs))) ≡ head
   head-is =
-      ap (λ (gs : List Segment). headOf gs) kept ∙ ap (λ (k : ℕ). getD (take left (l .segs)) (k - 1) noSegment) kept-length
+      ap (λ (gs : List Segment). headOf gs) (staying .kept) ∙ ap (λ (k : ℕ). getD (take left (l .segs)) (k - 1) noSegment) kept-length
       ∙ getD-take left (l .segs) (left - 1) noSegment (omega (arith, left-some))
+
+  -- it is a good one, and its slot lies in the area
+  pub head-good : SegmentGood (l .k) (l .c) head
+  head-good = subst (SegmentGood (l .k) (l .c)) head-is (range .good)
+
+  pub head-inside : head .slot * l .c + l .c ≤ length area
+  head-inside = subst (λ (g : Segment). g .slot * l .c + l .c ≤ length area) head-is (slot-inside l area n range)
 
   recent-is : recentLog l area n
       ≡ cutOff (viewOf l) area n (take (left - 1) (l .segs)) head (findCut (imageIn area (l .c) head) n 0)
   unfolding recentLog pruneRecentOf
   recent-is =
-      onward l area n _ long (staying .onward)
+      onward l area n _ (staying .long) (staying .onward)
       ∙ ap (λ (g : Segment). cutOff (viewOf l) area n (frontOf (dropNew n (take (l .count) (l .segs)))) g
       (findCut (imageIn area (l .c) g) n 0)) head-is
       ∙ ap (λ (hs : List Segment). cutOff (viewOf l) area n hs head (findCut (imageIn area (l .c) head) n 0)) front-is
@@ -361,30 +163,6 @@ module _ (l : Log) (area : List ℕ) (n left : ℕ) (staying : Staying l area n 
   pub recent-area : (x : ℕ) → findCut (imageIn area (l .c) head) n 0 ≡ cutAt x
       → paddedTo (l .c) area head x ≡ pruneArea area (recentLog l area n)
   recent-area x e = sym (ap (pruneArea area) (recent-is ∙ ap (cutOff (viewOf l) area n (take (left - 1) (l .segs)) head) e))
-
-  -- the segment that is cut is a good one
-  pub head-good : SegmentGood (l .k) (l .c) head
-  head-good =
-      let gs : List Segment = take (l .count) (l .segs) in
-      let listed = listed-length (l .count) (l .segs) long few-entries in
-      let some = left-some in
-      let here : left - 1 < l .count = omega (arith, staying .few) in
-      let from : chainOf (l .k) (l .c) (getD gs (left - 1) noSegment ∷ drop (suc (left - 1)) gs) ≡ true =
-      ap (chainOf (l .k) (l .c)) (sym (drop-cons gs (left - 1) noSegment (omega arith)))
-      ∙ chain-drop (l .k) (l .c) (left - 1) gs (fitting .chain) in
-      subst (SegmentGood (l .k) (l .c)) (listed-at (l .count) (l .segs) long few-entries (left - 1) here)
-      (chain-is (l .k) (l .c) (getD gs (left - 1) noSegment) (drop (suc (left - 1)) gs) from .good)
-
-  -- its slot lies in the area
-  pub head-inside : head .slot * l .c + l .c ≤ length area
-  head-inside = omega (arith, fitting .area, mul-le-mul-right (l .c) below, suc-mul (head .slot) (l .c))
-    where
-      below : suc (head .slot) ≤ l .k
-      below = omega (arith, head-good .slot)
-
-  -- which has at most 2^37 bytes
-  pub area-small : length area ≤ 137438953472
-  area-small = omega (arith, fitting .area, sizes-room (l .k) (l .c) (l .m) (fitting .sizes))
 
 -- the log as the code makes it: the first entries with the last one changed
 pub ended-is : (l : Log) (left n x : ℕ) (all segs : List Segment) → length (l .segs) ≡ 64 → 0 < left → left ≤ 64

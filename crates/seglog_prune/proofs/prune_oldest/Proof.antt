@@ -7,7 +7,8 @@ use Rattle.seglog.proofs.View.{unmapped}
 use Rattle.seglog_prune.specs.declared.Early.the-variants.{Onward}
 use Rattle.seglog_prune.specs.Prune.{pruneAnswer, pruneArea}
 use Rattle.seglog_prune.specs.Steps.{earlyOf}
-use Rattle.seglog_prune.proofs.Ways.{inner, fits-plain, oldest-settled, oldest-onward}
+use Rattle.seglog_prune.proofs.Decide.{inner, fits-plain}
+use Rattle.seglog_prune.proofs.Ways.{oldest-settled, oldest-onward}
 use borrow.Author.Needs.{needs}
 use Rattle.seglog_prune.proofs.prune_oldest.Statement.{statement}
 use Rattle.seglog_prune.proofs.prune_oldest.Tie as tie

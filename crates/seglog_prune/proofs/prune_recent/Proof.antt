@@ -17,18 +17,16 @@ use Rattle.seglog_prune.specs.declared.Early.the-variants.{Onward}
 use Rattle.seglog_prune.specs.Prune.{cutAt, findCut, imageIn, pruneAnswer, pruneArea}
 use Rattle.seglog_prune.specs.Steps.{earlyOf, cutOf}
 use Rattle.seglog_prune.proofs.Cut.{cut-within}
+use Rattle.seglog_prune.proofs.Decide.{inner, plain-few, fits-plain}
+use Rattle.seglog_prune.proofs.Inside.{area-small}
 use Rattle.seglog_prune.proofs.Ways.{
-  inner,
-  plain-few,
-  fits-plain,
   recent-settled,
   Staying,
+  range,
   few-entries,
-  fitting,
   left-some,
   head-good,
   head-inside,
-  area-small,
   recent-lost,
   recent-answer,
   recent-area,
@@ -90,10 +88,10 @@ module _ (c : tie.After-remaining) where
   inside = head-inside _ _ _ _ (staying-of c)
 
   small : length (area-of c) ≤ 137438953472
-  small = area-small _ _ _ _ (staying-of c)
+  small = area-small _ _ _ (range _ _ _ _ (staying-of c))
 
   pages : SizesObey (log-of c .k) (log-of c .c) (log-of c .m)
-  pages = fitting _ _ _ _ (staying-of c) .sizes
+  pages = range _ _ _ _ (staying-of c) .fit .sizes
 
   -- the part that is lent is the segment's image
   image-is : take (head-of c .slot * log-of c .c + head-of c .size - head-of c .slot * log-of c .c)

@@ -3,7 +3,7 @@
 use mathlib.Core.Path.{sym, ap, _∙_}
 use Rattle.seglog.specs.New.{accepted}
 use Rattle.seglog_prune.specs.Steps.{settledOf}
-use Rattle.seglog_prune.proofs.Ways.{settled-given}
+use Rattle.seglog_prune.proofs.Decide.{settled-given}
 use borrow.Author.Needs.{needs}
 use Rattle.seglog_prune.proofs.settled.Statement.{statement}
 use Rattle.seglog_prune.proofs.settled.Tie as tie

@@ -4,7 +4,8 @@ use mathlib.Core.Path.{_≡_}
 use native.Mathlib.Omega.{arith}
 use lib.ListN.{length}
 use Rattle.seglog.proofs.View.{unmapped}
-use Rattle.seglog_prune.proofs.Ways.{plain-few, started-is}
+use Rattle.seglog_prune.proofs.Decide.{plain-few}
+use Rattle.seglog_prune.proofs.Ways.{started-is}
 use borrow.Author.Needs.{needs}
 use Rattle.seglog_prune.proofs.started.Statement.{statement}
 use Rattle.seglog_prune.proofs.started.Tie as tie
