@@ -49,14 +49,24 @@ fn archive(area: &mut [u8]) -> Log {
     let d = append(c, &mut *area, b"scan 1003, skull, series 1");
     let e = append(d, &mut *area, b"scan 1003, skull, series 2");
     let f = append(e, &mut *area, b"scan 1004, hand, series 1");
-    append(f, area, b"scan 1004, hand, series 1, taken for another patient's")
+    append(
+        f,
+        area,
+        b"scan 1004, hand, series 1, taken for another patient's",
+    )
 }
 
 // Recovers s..e from the folder's files, over an area that held nothing.
 fn recover(path: &[u8], s: u64, e: u64) -> bool {
     let mut area = [0u8; 65536];
     let mut index = [0u64; 64];
-    let images = image_files::load(path, b"scans", image_files::find(path, b"scans", 1), &mut area, C as usize);
+    let images = image_files::load(
+        path,
+        b"scans",
+        image_files::find(path, b"scans", 1),
+        &mut area,
+        C as usize,
+    );
     let recovered = recovery::recover_rows(K, C, M, &mut area, images, s, e, &mut index);
     if !done(b"recover from the files", recovered.refusal, recovered.log) {
         return false;
@@ -91,7 +101,11 @@ fn run(path: &[u8]) -> bool {
 fn main() {
     let mut path = io::buffer();
     let given = os::arg(1, &mut path);
-    let good = if given == 0 { run(b".") } else { run(&path[..given]) };
+    let good = if given == 0 {
+        run(b".")
+    } else {
+        run(&path[..given])
+    };
     if good {
         say(b"ok, 7 records appended, 5 live and recovered from the files\n");
     } else {

@@ -94,7 +94,6 @@ pub fn image_of<'a>(area: &'a [u8], c: usize, row: ImageRow) -> &'a [u8] {
     slices::between(area, from, from + row.size as usize)
 }
 
-
 // Removes the images that were found, whose ids follow each other.
 pub fn remove(folder: &[u8], prefix: &[u8], found: Found) {
     let mut id = found.first;

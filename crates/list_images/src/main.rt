@@ -61,8 +61,17 @@ fn work(area: &mut [u8]) {
         say(b"refused 30: list_images FOLDER PREFIX [FIRST [S E]]\n");
         return;
     }
-    let found = image_files::find(&folder[..folder_length], &prefix[..prefix_length], arguments::first());
-    list_found(&folder[..folder_length], &prefix[..prefix_length], found, area);
+    let found = image_files::find(
+        &folder[..folder_length],
+        &prefix[..prefix_length],
+        arguments::first(),
+    );
+    list_found(
+        &folder[..folder_length],
+        &prefix[..prefix_length],
+        found,
+        area,
+    );
 }
 
 fn main() {

@@ -75,7 +75,14 @@ pub fn rows_and_texts(log: Log, area: &[u8], index: &[u64], count: u64) {
         if index.len() - at < 4 {
             return;
         }
-        row_and_text(log, area, index[at], index[at + 1], index[at + 2], index[at + 3]);
+        row_and_text(
+            log,
+            area,
+            index[at],
+            index[at + 1],
+            index[at + 2],
+            index[at + 3],
+        );
         at += 4;
         left -= 1;
     }

@@ -3,3 +3,4 @@ pub mod Sorted
 pub mod Rows
 pub mod Recovery
 pub mod Kept
+pub mod Depend

@@ -42,15 +42,39 @@ pub(crate) fn appends() -> bool {
     let mut area = [0u8; 16384];
     let large = [0u8; 8192];
     let refused = seglog::new_log(0, 8192, 8192, &mut area);
-    let rules = met(refused.refusal, 1, b"K, C, M or area length outside the rules");
-    let shape = met(append(refused.log, &mut area, b"abc"), 2, b"log value not well shaped, or area length not K x C");
+    let rules = met(
+        refused.refusal,
+        1,
+        b"K, C, M or area length outside the rules",
+    );
+    let shape = met(
+        append(refused.log, &mut area, b"abc"),
+        2,
+        b"log value not well shaped, or area length not K x C",
+    );
     say(b"3 payload above 2^30: lent by the comparison, oracle/run logs\n");
-    let last = met(append(made_up(1, 18446744073709551615), &mut area, b"abc"), 4, b"live end is 2^64 - 1");
-    let ids = met(append(made_up(4294967295, 1), &mut area, b"abc"), 5, b"new segment wanted, last id is 2^32 - 1");
+    let last = met(
+        append(made_up(1, 18446744073709551615), &mut area, b"abc"),
+        4,
+        b"live end is 2^64 - 1",
+    );
+    let ids = met(
+        append(made_up(4294967295, 1), &mut area, b"abc"),
+        5,
+        b"new segment wanted, last id is 2^32 - 1",
+    );
     let full = samples::filled(&mut area, 4096, 2);
-    let slots = met(append(full, &mut area, b"abc"), 6, b"new segment wanted, all K slots listed");
+    let slots = met(
+        append(full, &mut area, b"abc"),
+        6,
+        b"new segment wanted, all K slots listed",
+    );
     let fresh = seglog::new_log(2, 8192, 8192, &mut area);
-    let room = met(append(fresh.log, &mut area, &large), 7, b"padded record above C minus the size (C for a new segment)");
+    let room = met(
+        append(fresh.log, &mut area, &large),
+        7,
+        b"padded record above C minus the size (C for a new segment)",
+    );
     rules & shape & last & ids & slots & room
 }
 
@@ -65,7 +89,11 @@ pub(crate) fn prunes() -> bool {
     let log = samples::filled(&mut area, 8192, 4);
     let above = met(prune_recent(log, &mut area, 5), 8, b"prune above live end");
     let later = seglog_prune::prune_oldest(log, &mut area, 3);
-    let below = met(prune_recent(later.log, &mut area, 2), 9, b"prune below live start");
+    let below = met(
+        prune_recent(later.log, &mut area, 2),
+        9,
+        b"prune below live start",
+    );
     area[3] = 255;
     let cut = met(
         prune_recent(log, &mut area, 1),

@@ -38,7 +38,11 @@ pub(crate) fn deltas() -> bool {
     let early = met(decode(&[1, 0, 0]), 40, b"delta input ends early");
     let over = met(decode(&[1, 1, 0, 0]), 41, b"over 256 keys");
     let duplicate = met(decode(&repeated), 42, b"duplicate key");
-    let outside = met(encode(table(257)), 43, b"table over 256 rows or a value outside its slice");
+    let outside = met(
+        encode(table(257)),
+        43,
+        b"table over 256 rows or a value outside its slice",
+    );
     let short = met(encode(table(1)), 44, b"output short");
     early & over & duplicate & outside & short
 }

@@ -45,10 +45,30 @@ pub(crate) fn deltas() -> bool {
     let mut out = [255u8; 64];
     let erase = row_of(7, false);
     let reinstate = row_of(7, true);
-    let empty = holds(9, b"empty delta: bytes", written(table_of(erase, erase, 0), &mut out), 8);
+    let empty = holds(
+        9,
+        b"empty delta: bytes",
+        written(table_of(erase, erase, 0), &mut out),
+        8,
+    );
     let zeros = holds(9, b"as a number", eight(&out), 0);
-    let erased = holds(10, b"one erase key: bytes", written(table_of(erase, erase, 1), &mut out), 40);
-    let reinstated = holds(11, b"one reinstated key with 3 bytes: bytes", written(table_of(reinstate, erase, 1), &mut out), 47);
-    let both = holds(12, b"the same key in both groups: refusal", written(table_of(erase, reinstate, 2), &mut out), 42);
+    let erased = holds(
+        10,
+        b"one erase key: bytes",
+        written(table_of(erase, erase, 1), &mut out),
+        40,
+    );
+    let reinstated = holds(
+        11,
+        b"one reinstated key with 3 bytes: bytes",
+        written(table_of(reinstate, erase, 1), &mut out),
+        47,
+    );
+    let both = holds(
+        12,
+        b"the same key in both groups: refusal",
+        written(table_of(erase, reinstate, 2), &mut out),
+        42,
+    );
     empty & zeros & erased & reinstated & both
 }

@@ -26,7 +26,9 @@ pub(crate) fn holds(specimen: u64, what: &[u8], value: u64, wanted: u64) -> bool
 
 fn main() {
     let sizes = logs::sizes();
-    say(b"4 payload 2^30: 1073745920, and 3 for one byte more: lent by the comparison, oracle/run logs\n");
+    say(
+        b"4 payload 2^30: 1073745920, and 3 for one byte more: lent by the comparison, oracle/run logs\n",
+    );
     let named = names::names();
     let coded = deltas::deltas();
     let opened = logs::specimen_13();

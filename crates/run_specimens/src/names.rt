@@ -28,8 +28,23 @@ fn read(name: &[u8]) -> u64 {
 
 pub(crate) fn names() -> bool {
     let length = holds(5, b"prefix rollback, id 1: bytes", written(), 23);
-    let largest = holds(6, b"digits 4294967295 read as", read(b"rollback.4294967295.log"), 4294967295);
-    let over = holds(7, b"digits 4294967296: refusal", read(b"rollback.4294967296.log"), 35);
-    let plus = holds(8, b"+000000001 reads as", read(b"rollback.+000000001.log"), 1);
+    let largest = holds(
+        6,
+        b"digits 4294967295 read as",
+        read(b"rollback.4294967295.log"),
+        4294967295,
+    );
+    let over = holds(
+        7,
+        b"digits 4294967296: refusal",
+        read(b"rollback.4294967296.log"),
+        35,
+    );
+    let plus = holds(
+        8,
+        b"+000000001 reads as",
+        read(b"rollback.+000000001.log"),
+        1,
+    );
     length & largest & over & plus
 }

@@ -35,7 +35,7 @@ returns c =
     let d = t .before .before .before .args in
     let it = t .table-in .ensures in (
       c .written-delta .ensures ∙ ap writtenDelta (e .ensures .0)
-      ∙ ap (λ (u : Table). writtenDelta (encodedOf 256 u (d .values .now) (d .out .now))) it,
+          ∙ ap (λ (u : Table). writtenDelta (encodedOf 256 u (d .values .now) (d .out .now))) it,
       e .ensures .1 ∙ ap (λ (u : Table). afterOf 256 u (d .values .now) (d .out .now)) it,
     )
 

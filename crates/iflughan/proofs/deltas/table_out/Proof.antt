@@ -67,7 +67,7 @@ loop-again c =
       b .loop .inv .1,
       simp length-set (b .loop .inv .2),
       ap (λ (r : DeltaRow). take (n + 1) (set (b .loop .rows) n r)) same
-      ∙ keys-turn rowOut (a .t1 .rows) (b .loop .rows) n (erased []) (omega arith) (omega arith) (b .loop .inv .3),
+          ∙ keys-turn rowOut (a .t1 .rows) (b .loop .rows) n (erased []) (omega arith) (omega arith) (b .loop .inv .3),
       b .loop .inv .4,
     )
 
