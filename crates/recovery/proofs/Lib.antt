@@ -7,3 +7,4 @@ pub mod Order
 pub mod Cut
 pub mod Shaped
 pub mod Ways
+pub mod Read

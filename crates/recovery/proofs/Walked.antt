@@ -325,16 +325,15 @@ module _ (area : List ℕ) (k n s e : ℕ) (all : length area ≡ k * n) (whole 
             zs = w .zs;
             follows = ran .follows;
             split = segs ∙ ap (λ (x : List Segment). filledOf r m ∷ x) (w .split);
-            runs =
-                (
-                  id,
-                  slot,
-                  omega arith,
-                  size,
-                  ran .min,
-                  omega (arith, ran .max),
-                  subst (λ (x : ℕ). Runs k n (i + 1) x (w .ys)) (sym next) (w .runs),
-                );
+            runs = (
+              id,
+              slot,
+              omega arith,
+              size,
+              ran .min,
+              omega (arith, ran .max),
+              subst (λ (x : ℕ). Runs k n (i + 1) x (w .ys)) (sym next) (w .runs),
+            );
             empty = w .empty;
             top = ap (λ (x : ℕ). endOf x (w .ys)) next ∙ w .top;
             start = λ f t.

@@ -103,7 +103,16 @@ fn closed(g: Segment, e: u64, x: u64) -> Segment
 }
 
 // The log of the kept segments of the first `count` that were found, the last one closed at e.
-pub(crate) fn close(k: u64, c: u64, m: u64, area: &mut [u8], s: u64, e: u64, count: usize, found: Scanned) -> Recovered
+pub(crate) fn close(
+    k: u64,
+    c: u64,
+    m: u64,
+    area: &mut [u8],
+    s: u64,
+    e: u64,
+    count: usize,
+    found: Scanned,
+) -> Recovered
     requires { ⌜ ClosePre c count (found .scan .head) (keptOf s e (take count (found .segs))) ⌝ }
     ensures { λ r. ⌜ CloseDid k c m s e found (keptOf s e (take count (found .segs))) (now (area .entry)) (now (area .exit)) r ⌝ }
 {

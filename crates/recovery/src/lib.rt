@@ -109,7 +109,16 @@ fn refusal(number: u32) -> Recovered
 }
 
 // The scan of sorted rows, and what it leaves: 16 to 23, else the log of the kept segments.
-fn scan(k: u64, c: u64, m: u64, area: &mut [u8], sorted: Rows, s: u64, e: u64, index: &mut [u64]) -> Recovered
+fn scan(
+    k: u64,
+    c: u64,
+    m: u64,
+    area: &mut [u8],
+    sorted: Rows,
+    s: u64,
+    e: u64,
+    index: &mut [u64],
+) -> Recovered
     requires { ⌜ ScanPre k c m (now area) sorted s e ⌝ }
     ensures { λ r. ⌜ RecoveryDid
         (scanned k c m (now (area .entry)) (take (sorted .count) (sorted .rows)) s e (length (now (index .entry))))
@@ -126,7 +135,16 @@ fn scan(k: u64, c: u64, m: u64, area: &mut [u8], sorted: Rows, s: u64, e: u64, i
 }
 
 // Recovers the records s to e from the images of the rows, which stand in an array: 1, 11 to 15, then the scan.
-pub fn recover_rows(k: u64, c: u64, m: u64, area: &mut [u8], rows: Rows, s: u64, e: u64, index: &mut [u64]) -> Recovered
+pub fn recover_rows(
+    k: u64,
+    c: u64,
+    m: u64,
+    area: &mut [u8],
+    rows: Rows,
+    s: u64,
+    e: u64,
+    index: &mut [u64],
+) -> Recovered
     ensures { λ r. ⌜ RecoveryDid
         (recoveryOf k c m (now (area .entry)) (listedOf rows) s e (length (now (index .entry))))
         (now (area .entry)) (now (index .entry)) r (now (area .exit)) (now (index .exit)) ⌝ }
@@ -161,4 +179,23 @@ pub fn recover_rows(k: u64, c: u64, m: u64, area: &mut [u8], rows: Rows, s: u64,
         };
     }
     scan(k, c, m, area, sorted, s, e, index)
+}
+
+// Recovers the records s to e from the images of the lent rows, in any order.
+pub fn recover(
+    k: u64,
+    c: u64,
+    m: u64,
+    area: &mut [u8],
+    images: &[ImageRow],
+    s: u64,
+    e: u64,
+    index: &mut [u64],
+) -> Recovered
+    ensures { λ r. ⌜ RecoveryDid
+        (recoveryOf k c m (now (area .entry)) (now (images .entry)) s e (length (now (index .entry))))
+        (now (area .entry)) (now (index .entry)) r (now (area .exit)) (now (index .exit)) ⌝ }
+{
+    let rows = read_rows(images);
+    recover_rows(k, c, m, area, rows, s, e, index)
 }

@@ -61,8 +61,7 @@ loop-again c =
     let l = c .before .before .before .before .before .loop in
     let at = keep-turn _ _ _ (l .kept) (l .n) (l .i) (c .before .before .holds-live .result) _ _ (l .inv .3)
     (omega (arith, l .inv .1, c .before .before .before .before .loop-test .taken)) (l .inv .5)
-    (c .before .before .holds-live .ensures) (c .before .segment-if .ensures) (c .count-if .ensures) in
-    (
+    (c .before .before .holds-live .ensures) (c .before .segment-if .ensures) (c .count-if .ensures) in (
       omega (arith, c .before .before .before .before .loop-test .taken),
       l .inv .1,
       at .low,
