@@ -8,3 +8,4 @@ pub mod Cut
 pub mod Shaped
 pub mod Ways
 pub mod Dependence
+pub mod Read

@@ -180,3 +180,22 @@ pub fn recover_rows(
     }
     scan(k, c, m, area, sorted, s, e, index)
 }
+
+// Recovers the records s to e from the images of the lent rows, in any order.
+pub fn recover(
+    k: u64,
+    c: u64,
+    m: u64,
+    area: &mut [u8],
+    images: &[ImageRow],
+    s: u64,
+    e: u64,
+    index: &mut [u64],
+) -> Recovered
+    ensures { λ r. ⌜ RecoveryDid
+        (recoveryOf k c m (now (area .entry)) (now (images .entry)) s e (length (now (index .entry))))
+        (now (area .entry)) (now (index .entry)) r (now (area .exit)) (now (index .exit)) ⌝ }
+{
+    let rows = read_rows(images);
+    recover_rows(k, c, m, area, rows, s, e, index)
+}
