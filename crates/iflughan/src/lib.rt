@@ -25,6 +25,15 @@ pub struct Appended {
     pub log: Log,
 }
 
+// The number of index rows written, and the log (iflughan_recovered).
+#[repr(C)]
+pub struct Recovered {
+    pub refusal: u32,
+    pub reserved: u32,
+    pub rows: u64,
+    pub log: Log,
+}
+
 // A row's payload: its place in the area (iflughan_part).
 #[repr(C)]
 pub struct Part {

@@ -1,10 +1,46 @@
 // Recovery across the C interface, and the rows of its index: the library's answers with the padding named, a payload as a place.
 ghost use mathlib.Core.Path.{_≡_};
+ghost use lib.ListN.{length};
 ghost use Rattle.payload.specs.Payload.{rowNumber, rowQuestion};
-ghost use Rattle.iflughan.specs.Recover.{partOf};
+ghost use Rattle.recovery.specs.Recovery.{recoveryOf};
+ghost use Rattle.iflughan.specs.Recover.{recoveredOut, Recovers, partOf};
 use crate::Part;
+use crate::Recovered;
 use payload::RowAnswer;
+use recovery_walk::ImageRow;
 use seglog::Log;
+
+// The answer of `recover`, with the padding named.
+fn recovered_out(answer: recovery::Recovered) -> Recovered
+    ensures { λ r. ⌜ r ≡ recoveredOut answer ⌝ }
+{
+    let log = answer.log;
+    Recovered {
+        refusal: answer.refusal,
+        reserved: 0,
+        rows: answer.rows,
+        log,
+    }
+}
+
+// The log of the records s..e from the images that the rows list, and its index; 1, 11 to 23.
+#[no_mangle]
+pub extern "C" fn iflughan_recover(
+    k: u64,
+    c: u64,
+    m: u64,
+    area: &mut [u8],
+    images: &[ImageRow],
+    s: u64,
+    e: u64,
+    index: &mut [u64],
+) -> Recovered
+    ensures { λ r. ⌜ Recovers
+        (recoveryOf k c m (now (area .entry)) (now (images .entry)) s e (length (now (index .entry))))
+        (now (area .entry)) (now (index .entry)) r (now (area .exit)) (now (index .exit)) ⌝ }
+{
+    recovered_out(recovery::recover(k, c, m, area, images, s, e, index))
+}
 
 // Whether an index row is good for this log and area; 2, 24. The id is not looked at.
 #[no_mangle]

@@ -1,3 +1,5 @@
+-- `iflughan::iflughan_delta_encode` meets its contract: `encode`'s, of the table as the library holds it, with its answer as numbers.
+-- Assumes nothing.
 use mathlib.Core.Path.{ap, _∙_}
 use borrow.Author.Needs.{needs}
 use Rattle.delta.specs.declared.Table.{Table}
@@ -5,29 +7,19 @@ use Rattle.delta_encode.specs.Bytes.{encodedOf, afterOf}
 use Rattle.iflughan.specs.Deltas.{writtenDelta}
 use Rattle.iflughan.proofs.deltas.iflughan_delta_encode.Statement.{statement}
 use Rattle.iflughan.proofs.deltas.iflughan_delta_encode.Tie as tie
-use Rattle.iflughan.proofs.deltas.iflughan_delta_encode.Reads as reads
-use Rattle.iflughan.proofs.deltas.iflughan_delta_encode.Lts as lts
-use Rattle.delta_encode.proofs.encode.Reads as encode-reads
-use Rattle.iflughan.proofs.deltas.table_in.Reads as table-in-reads
-use Rattle.iflughan.proofs.deltas.written_delta.Reads as written-delta-reads
 
--- src/deltas.rt:165:40
 table-in-requires : tie.Need-table-in-requires
 table-in-requires c κs = search needs
 
--- src/deltas.rt:165:19
 encode-requires : tie.Need-encode-requires
 encode-requires c κs = search needs
 
--- src/deltas.rt:165:5
 written-delta-requires : tie.Need-written-delta-requires
 written-delta-requires c κs = search needs
 
--- src/deltas.rt:160:1
 same-length : tie.Need-same-length
 same-length c = search needs
 
--- src/deltas.rt:160:1
 returns : tie.Need-returns
 returns c =
     let e = c .before .before .before .encode in

@@ -13,8 +13,6 @@ use Rattle.iflughan.specs.declared.DeltaRow.{DeltaRow}
 use Rattle.iflughan.proofs.Rows.{all-rows}
 use Rattle.iflughan.proofs.deltas.table_in.Statement.{statement}
 use Rattle.iflughan.proofs.deltas.table_in.Tie as tie
-use Rattle.iflughan.proofs.deltas.table_in.Reads as reads
-use Rattle.iflughan.proofs.deltas.table_in.Lts as lts
 
 abbrev Inv-loop : tie.InvT-loop
 Inv-loop t rows₀ i₀ rows i = (i ≤ 256) × (length (t .rows) ≡ 256) × (length rows ≡ 256) × (take i rows ≡ map rowIn (take i (t .rows)))
@@ -60,7 +58,8 @@ returns : tie.Need-returns Inv-loop μ-loop
 returns c =
     let b = c .before in
     let a = b .before .args in
-    let e = all-rows rowIn (a .t1 .rows) (b .loop .rows) (b .loop .i) 256 (omega arith) (b .loop .inv .1) (b .loop .inv .2) (b .loop .inv .3) in
+    let e = all-rows rowIn (a .t1 .rows) (b .loop .rows) (b .loop .i) 256 (omega arith) (b .loop .inv .1) (b .loop .inv .2)
+    (b .loop .inv .3) in
     λ i. record { rows = e i; count = a .t1 .count }
 
 pub table-in-spec : {M : Type 1} → statement M

@@ -14,9 +14,6 @@ use Rattle.iflughan.specs.declared.DeltaRow.{DeltaRow}
 use Rattle.iflughan.proofs.Rows.{all-rows}
 use Rattle.iflughan.proofs.deltas.table_out.Statement.{statement}
 use Rattle.iflughan.proofs.deltas.table_out.Tie as tie
-use Rattle.iflughan.proofs.deltas.table_out.Reads as reads
-use Rattle.iflughan.proofs.deltas.table_out.Lts as lts
-use Rattle.iflughan.proofs.deltas.mark.Reads as mark-reads
 
 abbrev Inv-loop : tie.InvT-loop
 Inv-loop t reserved rows₀ i₀ rows i =
@@ -75,7 +72,8 @@ returns : tie.Need-returns Inv-loop μ-loop
 returns c =
     let b = c .before in
     let a = b .before .args in
-    let e = all-rows rowOut (a .t1 .rows) (b .loop .rows) (b .loop .i) 256 (omega arith) (b .loop .inv .1) (b .loop .inv .2) (b .loop .inv .3) in
+    let e = all-rows rowOut (a .t1 .rows) (b .loop .rows) (b .loop .i) 256 (omega arith) (b .loop .inv .1) (b .loop .inv .2)
+    (b .loop .inv .3) in
     λ i. record { count = a .t1 .count; rows = e i }
 
 pub table-out-spec : {M : Type 1} → statement M

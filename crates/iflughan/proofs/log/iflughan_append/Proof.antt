@@ -5,24 +5,16 @@ use borrow.Author.Needs.{needs}
 use Rattle.iflughan.specs.Log.{appendedOut}
 use Rattle.iflughan.proofs.log.iflughan_append.Statement.{statement}
 use Rattle.iflughan.proofs.log.iflughan_append.Tie as tie
-use Rattle.iflughan.proofs.log.iflughan_append.Reads as reads
-use Rattle.iflughan.proofs.log.iflughan_append.Lts as lts
-use Rattle.iflughan.proofs.log.appended_out.Reads as appended-out-reads
-use Rattle.seglog_append.proofs.append.Reads as append-reads
 
--- src/log.rt:52:18
 append-requires : tie.Need-append-requires
 append-requires c κs = search needs
 
--- src/log.rt:52:5
 appended-out-requires : tie.Need-appended-out-requires
 appended-out-requires c κs = search needs
 
--- src/log.rt:47:1
 same-length : tie.Need-same-length
 same-length c = search needs
 
--- src/log.rt:47:1
 returns : tie.Need-returns
 returns c =
     let call = c .before .before .before .append in (c .appended-out .ensures ∙ ap appendedOut (call .ensures .0), call .ensures .1)

@@ -5,24 +5,16 @@ use borrow.Author.Needs.{needs}
 use Rattle.iflughan.specs.Log.{loggedOut}
 use Rattle.iflughan.proofs.log.iflughan_prune_oldest.Statement.{statement}
 use Rattle.iflughan.proofs.log.iflughan_prune_oldest.Tie as tie
-use Rattle.iflughan.proofs.log.iflughan_prune_oldest.Reads as reads
-use Rattle.iflughan.proofs.log.iflughan_prune_oldest.Lts as lts
-use Rattle.iflughan.proofs.log.logged_out.Reads as logged-out-reads
-use Rattle.seglog_prune.proofs.prune_oldest.Reads as prune-oldest-reads
 
--- src/log.rt:61:16
 prune-oldest-requires : tie.Need-prune-oldest-requires
 prune-oldest-requires c κs = search needs
 
--- src/log.rt:61:5
 logged-out-requires : tie.Need-logged-out-requires
 logged-out-requires c κs = search needs
 
--- src/log.rt:56:1
 same-length : tie.Need-same-length
 same-length c = search needs
 
--- src/log.rt:56:1
 returns : tie.Need-returns
 returns c =
     let call = c .before .before .before .prune-oldest in (c .logged-out .ensures ∙ ap loggedOut (call .ensures .0), call .ensures .1)

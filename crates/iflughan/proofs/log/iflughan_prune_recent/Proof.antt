@@ -5,24 +5,16 @@ use borrow.Author.Needs.{needs}
 use Rattle.iflughan.specs.Log.{loggedOut}
 use Rattle.iflughan.proofs.log.iflughan_prune_recent.Statement.{statement}
 use Rattle.iflughan.proofs.log.iflughan_prune_recent.Tie as tie
-use Rattle.iflughan.proofs.log.iflughan_prune_recent.Reads as reads
-use Rattle.iflughan.proofs.log.iflughan_prune_recent.Lts as lts
-use Rattle.iflughan.proofs.log.logged_out.Reads as logged-out-reads
-use Rattle.seglog_prune.proofs.prune_recent.Reads as prune-recent-reads
 
--- src/log.rt:70:16
 prune-recent-requires : tie.Need-prune-recent-requires
 prune-recent-requires c κs = search needs
 
--- src/log.rt:70:5
 logged-out-requires : tie.Need-logged-out-requires
 logged-out-requires c κs = search needs
 
--- src/log.rt:65:1
 same-length : tie.Need-same-length
 same-length c = search needs
 
--- src/log.rt:65:1
 returns : tie.Need-returns
 returns c =
     let call = c .before .before .before .prune-recent in (c .logged-out .ensures ∙ ap loggedOut (call .ensures .0), call .ensures .1)
