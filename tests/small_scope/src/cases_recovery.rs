@@ -50,9 +50,15 @@ const MEMORY: [Case; 9] = [
 const RANGES: [Case; 14] = [
     ("s is 0", 11, |it| it.s = 0),
     ("e is 0", 11, |it| it.e = 0),
-    ("11 before 13", 11, |it| (it.s = 0, bad_rows(it)).0),
+    ("11 before 13", 11, |it| {
+        it.s = 0;
+        bad_rows(it)
+    }),
     ("s above e", 12, |it| it.s = 9),
-    ("12 before 13", 12, |it| (it.s = 9, bad_rows(it)).0),
+    ("12 before 13", 12, |it| {
+        it.s = 9;
+        bad_rows(it)
+    }),
     ("s below the first record", 21, |it| it.s = 5),
     ("s above the last record", 21, |it| (it.s, it.e) = (10, 11)),
     ("s alike in its low 32 bits", 21, |it| (it.s, it.e) = ((1 << 32) + 7, u64::MAX)),
@@ -69,8 +75,14 @@ const ROWS: [Case; 17] = [
     ("a slot twice", 13, |it| it.images[1].slot = 2),
     ("size above C", 13, |it| it.images[1].size = 8193),
     ("65 rows", 13, |it| it.images.resize(65, row(1, 0, 0))),
-    ("13 before 14", 13, |it| (it.images[2].id = 0, bad_rows(it)).0),
-    ("13 for the range (0, 0)", 13, |it| ((it.s, it.e) = (0, 0), bad_rows(it)).0),
+    ("13 before 14", 13, |it| {
+        it.images[2].id = 0;
+        bad_rows(it)
+    }),
+    ("13 for the range (0, 0)", 13, |it| {
+        (it.s, it.e) = (0, 0);
+        bad_rows(it)
+    }),
     ("segment id 0", 14, |it| (it.images[2].id, it.images[0].id, it.images[1].id) = (0, 1, 2)),
     ("14 before 15", 14, |it| it.images[2].id = 0),
     ("14 for the range (0, 0)", 14, |it| (it.s, it.e, it.images[2].id) = (0, 0, 0)),
@@ -94,24 +106,39 @@ const IMAGES: [Case; 22] = [
     ("first record id 0", 19, |it| put_header(&mut it.area, 2, 0, 3, 0)),
     ("an id twice", 19, |it| put_header(&mut it.area, 2, 4096, 3, 6)),
     ("a gap in an image", 19, |it| put_header(&mut it.area, 2, 4096, 3, 8)),
-    ("a gap over the border", 19, |it| put_header(&mut it.area, 0, 0, 3, 9)),
-    ("the sequence begins anew over the border", 19, |it| put_header(&mut it.area, 0, 0, 3, 1)),
+    ("a gap over the border", 19, |it| {
+        put_header(&mut it.area, 0, 0, 3, 9);
+        put_header(&mut it.area, 0, 4096, 3, 10)
+    }),
+    ("the sequence begins anew over the border", 19, |it| {
+        put_header(&mut it.area, 0, 0, 3, 1);
+        put_header(&mut it.area, 0, 4096, 3, 2)
+    }),
     ("the next id in its low 32 bits alone", 19, |it| put_header(&mut it.area, 2, 4096, 3, (1 << 32) + 7)),
     ("an id after 2^64 - 1", 19, |it| {
         put_header(&mut it.area, 2, 0, 3, u64::MAX);
         put_header(&mut it.area, 2, 4096, 3, 0)
     }),
-    ("19 before 20", 19, |it| put_header(&mut it.area, 2, 4096, 9000, 6)),
-    ("19 before a later image's 17", 19, |it| (it.images[0].size = 5, put_header(&mut it.area, 2, 4096, 3, 6)).1),
+    ("19 before 20", 19, |it| put_header(&mut it.area, 2, 4096, 9000, 8)),
+    ("19 before a later image's 17", 19, |it| {
+        it.images[0].size = 5;
+        put_header(&mut it.area, 2, 4096, 3, 6)
+    }),
     ("a live payload past the size", 20, |it| it.images[2].size = 4096 + 14),
     ("a live payload of 2^30", 20, |it| put_header(&mut it.area, 0, 0, 1 << 30, 8)),
-    ("20 before 21", 20, |it| (it.s = 5, put_header(&mut it.area, 2, 4096, 9000, 7)).1),
+    ("20 before 21", 20, |it| {
+        it.s = 5;
+        put_header(&mut it.area, 2, 4096, 9000, 7)
+    }),
     ("a torn record before s", 0, |it| {
         put_header(&mut it.area, 2, 0, 9000, 7);
         it.s = 8
     }),
     ("a torn record after e", 0, |it| put_header(&mut it.area, 0, 4096, 1 << 30, 9)),
-    ("a torn record hides the next", 19, |it| (it.s = 6, put_header(&mut it.area, 2, 0, 9000, 5)).1),
+    ("a torn record hides the next", 19, |it| {
+        it.s = 6;
+        put_header(&mut it.area, 2, 0, 9000, 5)
+    }),
     ("the range (0, 0) reads no image", 0, |it| (it.s, it.e, it.words, it.images[2].size) = (0, 0, 0, 11)),
 ];
 
