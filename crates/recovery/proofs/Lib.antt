@@ -8,3 +8,5 @@ pub mod Cut
 pub mod Shaped
 pub mod Ways
 pub mod Read
+pub mod Laws
+pub mod Unique
