@@ -9,3 +9,5 @@ pub mod Shaped
 pub mod Ways
 pub mod Dependence
 pub mod Read
+pub mod Laws
+pub mod Unique

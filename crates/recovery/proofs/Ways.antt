@@ -30,6 +30,7 @@ use Rattle.recovery_walk.specs.Rows.{rowsAll, penOf}
 use Rattle.recovery_walk.specs.Scan.{judged, scanOf, scannedOf, indexOf, ScanDid}
 use Rattle.recovery_walk.proofs.ImageCases.{images-number}
 use Rattle.recovery_walk.proofs.Count.{walk-counts}
+use Rattle.recovery_walk.proofs.RowIds.{Accepted, scan-accepted}
 use Rattle.recovery.specs.declared.Recovered.{Recovered}
 use Rattle.recovery.specs.declared.Rows.{Rows}
 use Rattle.recovery.specs.ImageRows.{sortRows, rowsInside, rowsApart, rowsFit, lowestZero, oneApart}
@@ -147,35 +148,6 @@ walk-pre area k c n entries rs most small all few is many inside =
 
 -- ---- the scan's outcome
 
--- a scan that is not refused
-pub record Accepted (area : List ℕ) (c s e : ℕ) (rs : List ImageRow) (d : Scan) (gs : List Segment) : Type 0 where
-  pub walk : images area c s e rs false startOf ≡ Walk.walked d gs
-  pub start : d .start ≡ true
-  pub end : d .end ≡ true
-
-pub scan-accepted : (area : List ℕ) (c s e : ℕ) (rs : List ImageRow) (words : ℕ) (d : Scan) (gs : List Segment)
-    → scanOf area c s e rs words ≡ Walk.walked d gs → Accepted area c s e rs d gs
-unfolding scanOf judged
-scan-accepted area c s e rs words d gs q = by (images area c s e rs false startOf) refl q
-  where
-    by : (o : Outcome) → images area c s e rs false startOf ≡ o → judged words o ≡ Walk.walked d gs → Accepted area c s e rs d gs
-    by (Walk.refused n) p z = absurd (let y : _≡_ {A = ℕ} 0 1 = cc in omega arith)
-    by (Walk.walked x xs) p z = go (x .start) (x .end) (ltb words (4 * x .live)) refl refl z
-      where
-        go : (a b t : Bool) → x .start ≡ a → x .end ≡ b
-            → first ((not a ⇒ Walk.refused 21) ∷ (not b ⇒ Walk.refused 22) ∷ (t ⇒ Walk.refused 23) ∷ []) (Walk.walked x xs) ≡ Walk.walked d gs
-            → Accepted area c s e rs d gs
-        go false b t ea eb w = absurd (let y : _≡_ {A = ℕ} 0 1 = cc in omega arith)
-        go true false t ea eb w = absurd (let y : _≡_ {A = ℕ} 0 1 = cc in omega arith)
-        go true true true ea eb w = absurd (let y : _≡_ {A = ℕ} 0 1 = cc in omega arith)
-        go true true false ea eb w =
-            let same : x ≡ d = cc in
-            record {
-              walk = p ∙ w;
-              start = ap (λ (y : Scan). y .start) (sym same) ∙ ea;
-              end = ap (λ (y : Scan). y .end) (sym same) ∙ eb;
-            }
-
 -- a scan's refusal has a number
 pub scan-number : (area : List ℕ) (c s e : ℕ) (rs : List ImageRow) (words m : ℕ) → scanOf area c s e rs words ≡ Walk.refused m → m ≡ 0 → ⊥
 unfolding scanOf judged
@@ -197,7 +169,7 @@ scan-number area c s e rs words m q = by (images area c s e rs false startOf) re
         go true true false w = absurd (let y : _≡_ {A = ℕ} 0 1 = cc in omega arith)
 
 -- the last segment of some that run on
-runs-last : (k n i b : ℕ) (hs : List Segment) (g : Segment) → Runs k n i b (hs ++ (g ∷ [])) → (g .slot < k) × (g .size ≤ n)
+pub runs-last : (k n i b : ℕ) (hs : List Segment) (g : Segment) → Runs k n i b (hs ++ (g ∷ [])) → (g .slot < k) × (g .size ≤ n)
 runs-last k n i b [] g h = (h .1, h .3)
 runs-last k n i b (x ∷ hs) g h = runs-last k n (i + 1) (x .max + 1) hs g (h .6)
 
@@ -206,9 +178,9 @@ pub record Keeps (k c s e i x : ℕ) (gs : List Segment) : Type 0 where
   pub whole : Whole s e k c i (keptOf s e gs)
   pub head : HeadGood c x
 
-pub scan-keeps : (area : List ℕ) (k c s e i : ℕ) (rs : List ImageRow) (d : Scan) (gs : List Segment) → length area ≡ k * c → c % 4096 ≡ 0 → s ≤ e
-    → (s ≡ 0 → ⊥) → rowsInside k c rs ≡ true → IdsFrom i rs → Accepted area c s e rs d gs → Keeps k c s e i (d .head) gs
-scan-keeps area k c s e i rs d gs all pages order some inside ids a =
+pub scan-keeps : (area : List ℕ) (k c s e i room : ℕ) (rs : List ImageRow) (d : Scan) (gs : List Segment) → length area ≡ k * c → c % 4096 ≡ 0 → s ≤ e
+    → (s ≡ 0 → ⊥) → rowsInside k c rs ≡ true → IdsFrom i rs → Accepted room (images area c s e rs false startOf) d gs → Keeps k c s e i (d .head) gs
+scan-keeps area k c s e i room rs d gs all pages order some inside ids a =
     let t = images-tell area k c s e all pages order rs i startOf d gs inside ids (a .walk) in
     let start = t .start refl (a .start) in
     let end = t .end refl (a .end) in
@@ -355,8 +327,9 @@ module _ (k c m : ℕ) (area : List ℕ) (images-in : Rows) (s e : ℕ) (index :
       abbrev w : NoFault
       w = no-fault h
 
-      went : Accepted area c s e rs (r .scan) (w .gs)
-      went = scan-accepted area c s e rs (length index) (r .scan) (w .gs) (w .out)
+      went : Accepted (length index) (images area c s e rs false startOf) (r .scan) (w .gs)
+      unfolding scanOf
+      went = scan-accepted (length index) (images area c s e rs false startOf) (r .scan) (w .gs) (w .out)
 
       -- the segments that were found are the first n entries
       listed : take n (r .segs) ≡ w .gs
@@ -371,7 +344,7 @@ module _ (k c m : ℕ) (area : List ℕ) (images-in : Rows) (s e : ℕ) (index :
       close-pre =
           let room = roomy-is k c m (length area) (pre .roomy) in
           let ids = ids-are rs (pre .low) (pre .apart) in
-          let keeps = scan-keeps area k c s e (ids .i) rs (r .scan) (w .gs) (room .all) (room .obey .whole-pages) (pre .order) (pre .some)
+          let keeps = scan-keeps area k c s e (ids .i) (length index) rs (r .scan) (w .gs) (room .all) (room .obey .whole-pages) (pre .order) (pre .some)
           (pre .inside) (ids .from) went in
           let cut = keeps .whole .cut in
           let last = runs-last k c (keeps .whole .j) (keeps .whole .b) (cut .hs) (cut .g) (cut .runs) in

@@ -64,7 +64,7 @@ fn put_row(acc: Rows, i: usize, row: ImageRow) -> Rows
 }
 
 // The rows of the slice, copied into an array.
-pub fn read_rows(rows: &[ImageRow]) -> Rows
+fn read_rows(rows: &[ImageRow]) -> Rows
     ensures { λ r. ⌜ r ≡ rowsOf (now (rows .entry)) ⌝ }
 {
     if 64 < rows.len() {

@@ -1,0 +1,236 @@
+-- What holds of every accepted recovery, whatever bytes the images hold: its log is well shaped and fits the area; its index rows are
+-- those of s to e, in order; and no byte of the area changes but the head's missing padding. And two answers that the contract allows
+-- are equal. Assumes nothing.
+use mathlib.Core.Path.{_≡_, refl, sym, ap, subst, _∙_}
+use mathlib.Core.Bool.{Bool, true, false, _&&_, not}
+use mathlib.Core.List.{List, [], _∷_, _++_}
+use Prim.Native.Nat.{ℕ, _+_, _-_, _*_, _≤_, _<_}
+use native.Mathlib.Omega.{arith}
+use lib.ListN.{length, drop, replicate, length-replicate}
+use lib.Dec.{eqb, ltb, leb}
+use borrow.Author.Tests.{eq-eqb, eqb-true, eqb-false, ltb-false, le-leb, leb-true}
+use Rattle.lists.specs.Choice.{pick, _⇒_, first}
+use Rattle.lists.specs.Splice.{part, splice, slotOf}
+use Rattle.lists.proofs.Splice.{splice-length, splice-before, splice-behind, splice-slot}
+use Rattle.seglog.specs.declared.Segment.{Segment}
+use Rattle.seglog.specs.Log.{View, emptyOf, logOf, headOf, frontOf, sizesOf, shapedOf, fitsOf, fittingOf, plainOf, viewOf, chainOf, apartOf, endsOf}
+use Rattle.seglog.specs.New.{roomyOf}
+use Rattle.seglog.proofs.Bools.{and-both, both-and}
+use Rattle.seglog.proofs.Fit.{sizes-are}
+use Rattle.seglog.proofs.View.{plain-log, view-log, head-snoc}
+use Rattle.recovery_walk.specs.declared.ImageRow.{ImageRow}
+use Rattle.recovery_walk.specs.declared.Scan.{Scan}
+use Rattle.recovery_walk.specs.Images as Walk
+use Rattle.recovery_walk.specs.Images.{Outcome, images, startOf}
+use Rattle.recovery_walk.specs.Rows.{rowsAll, penOf, RowIds}
+use Rattle.recovery_walk.specs.Scan.{scanOf}
+use Rattle.recovery_walk.proofs.RowIds.{Accepted, scan-accepted, scan-rows}
+use Rattle.recovery.specs.declared.Recovered.{Recovered}
+use Rattle.recovery.specs.ImageRows.{sortRows, rowsFit, lowestZero, oneApart}
+use Rattle.recovery.specs.Recovery.{Recovery, refused, recovered, keptOf, closedAt, paddedHead, outcomeOf, scanned, oneZero, recoveryOf, RecoveryDid}
+use Rattle.recovery.specs.Kept.{closedView}
+use Rattle.recovery.proofs.Order.{sort-inside, sort-apart}
+use Rattle.recovery.proofs.Shaped.{images-slots, slots-apart, kept-apart, closed-shaped}
+use Rattle.recovery.proofs.Ways.{Roomy, roomy-is, Fit, fit-is, Ids, ids-are, Keeps, scan-keeps, runs-last}
+
+-- ---- two answers that the contract of `recover` allows are equal
+
+pub record Same (r r′ : Recovered) (area area′ index index′ : List ℕ) : Type 0 where
+  pub answer : r ≡ r′
+  pub bytes : area ≡ area′
+  pub words : index ≡ index′
+
+pub recover-unique : (o : Recovery) (area index : List ℕ) (r r′ : Recovered) (area₁ area₂ index₁ index₂ : List ℕ)
+    → RecoveryDid o area index r area₁ index₁ → RecoveryDid o area index r′ area₂ index₂ → Same r r′ area₁ area₂ index₁ index₂
+recover-unique o area index r r′ area₁ area₂ index₁ index₂ p q =
+    record { answer = p .answer ∙ sym (q .answer); bytes = p .bytes ∙ sym (q .bytes); words = p .words ∙ sym (q .words) }
+
+-- a well-shaped log lists 64 segments at most
+shaped-few : (a : View) → shapedOf a ≡ true → length (a .segs) ≤ 64
+unfolding shapedOf
+shaped-few a h =
+    let t = and-both _ (endsOf (a .start) (a .end) (a .segs)) h in
+    let u = and-both _ (apartOf (a .segs)) (t .0) in
+    let v = and-both _ (chainOf (a .k) (a .c) (a .segs)) (u .0) in
+    let w = and-both (sizesOf (a .k) (a .c) (a .m)) (leb (length (a .segs)) (a .k)) (v .0) in
+    omega (arith, leb-true (length (a .segs)) (a .k) (w .1), sizes-are (a .k) (a .c) (a .m) (w .0) .few-slots)
+
+-- ---- what an accepted recovery has passed
+
+module _ (k c m : ℕ) (area : List ℕ) (rows : List ImageRow) (s e room : ℕ) where
+  -- none of 1 and 11 to 15
+  pub record Passed : Type 0 where
+    pub roomy : roomyOf k c m (length area) ≡ true
+    pub order : s ≤ e
+    pub fit : rowsFit k c rows ≡ true
+    pub low : lowestZero (sortRows rows) ≡ false
+    pub apart : oneApart (sortRows rows) ≡ true
+
+  -- the empty log for the range (0, 0), or the scan's
+  passed : {P : Type 0} (a : View) (area′ words : List ℕ) → recoveryOf k c m area rows s e room ≡ recovered a area′ words
+      → (Passed → s ≡ 0 → recovered (emptyOf k c m) area [] ≡ recovered a area′ words → P)
+      → (Passed → (s ≡ 0 → ⊥) → scanned k c m area (sortRows rows) s e room ≡ recovered a area′ words → P) → P
+  unfolding recoveryOf
+  passed {P} a area′ words q empty full =
+      go (roomyOf k c m (length area)) (oneZero s e) (ltb e s) (rowsFit k c rows) (lowestZero (sortRows rows)) (oneApart (sortRows rows)) (eqb s 0)
+      refl refl refl refl refl refl q
+    where
+      go : (x o t f l p z : Bool) → roomyOf k c m (length area) ≡ x → ltb e s ≡ t → rowsFit k c rows ≡ f → lowestZero (sortRows rows) ≡ l
+          → oneApart (sortRows rows) ≡ p → eqb s 0 ≡ z
+          → first
+          ((not x ⇒ refused 1) ∷ (o ⇒ refused 11) ∷ (t ⇒ refused 12) ∷ (not f ⇒ refused 13) ∷ (l ⇒ refused 14) ∷ (not p ⇒ refused 15)
+          ∷ (z ⇒ recovered (emptyOf k c m) area []) ∷ []) (scanned k c m area (sortRows rows) s e room)
+          ≡ recovered a area′ words → P
+      go false o t f l p z ex et ef el ep ez w = absurd (let y : _≡_ {A = ℕ} 0 1 = cc in omega arith)
+      go true true t f l p z ex et ef el ep ez w = absurd (let y : _≡_ {A = ℕ} 0 1 = cc in omega arith)
+      go true false true f l p z ex et ef el ep ez w = absurd (let y : _≡_ {A = ℕ} 0 1 = cc in omega arith)
+      go true false false false l p z ex et ef el ep ez w = absurd (let y : _≡_ {A = ℕ} 0 1 = cc in omega arith)
+      go true false false true true p z ex et ef el ep ez w = absurd (let y : _≡_ {A = ℕ} 0 1 = cc in omega arith)
+      go true false false true false false z ex et ef el ep ez w = absurd (let y : _≡_ {A = ℕ} 0 1 = cc in omega arith)
+      go true false false true false true true ex et ef el ep ez w =
+          empty (record { roomy = ex; order = ltb-false e s et; fit = ef; low = el; apart = ep }) (eqb-true s 0 ez) w
+      go true false false true false true false ex et ef el ep ez w =
+          full (record { roomy = ex; order = ltb-false e s et; fit = ef; low = el; apart = ep }) (eqb-false s 0 ez) w
+
+  -- ---- a scan's outcome
+
+  -- what an accepted scan leaves: the last kept segment g closed at e, whose padded end is x
+  pub record Left (a : View) (area′ words : List ℕ) : Type 0 where
+    pub d : Scan
+    pub gs : List Segment
+    pub out : scanOf area c s e (sortRows rows) room ≡ Walk.walked d gs
+    pub view : a ≡ closedView k c m s e (d .head) (keptOf s e gs)
+    pub bytes : area′ ≡ paddedHead c area (headOf (keptOf s e gs)) (d .head)
+    pub index : words ≡ rowsAll area c s e (sortRows rows) penOf
+
+  left : (a : View) (area′ words : List ℕ) → scanned k c m area (sortRows rows) s e room ≡ recovered a area′ words → Left a area′ words
+  left a area′ words q = by (scanOf area c s e (sortRows rows) room) refl q
+    where
+      by : (o : Outcome) → scanOf area c s e (sortRows rows) room ≡ o → outcomeOf k c m area s e (sortRows rows) o ≡ recovered a area′ words
+          → Left a area′ words
+      by (Walk.refused n) p w = absurd (let y : _≡_ {A = ℕ} 0 1 = cc in omega arith)
+      by (Walk.walked d gs) p w = record { d = d; gs = gs; out = p; view = (cc); bytes = (cc); index = (cc) }
+
+  module _ (p : Passed) (some : s ≡ 0 → ⊥) (a : View) (area′ words : List ℕ) (w : Left a area′ words) where
+    went : Accepted room (images area c s e (sortRows rows) false startOf) (w .d) (w .gs)
+    unfolding scanOf
+    went = scan-accepted room (images area c s e (sortRows rows) false startOf) (w .d) (w .gs) (w .out)
+
+    sizes : Roomy k c m (length area)
+    sizes = roomy-is k c m (length area) (p .roomy)
+
+    ids : Ids (sortRows rows)
+    ids = ids-are (sortRows rows) (p .low) (p .apart)
+
+    keeps : Keeps k c s e (ids .i) (w .d .head) (w .gs)
+    keeps =
+        scan-keeps area k c s e (ids .i) room (sortRows rows) (w .d) (w .gs) (sizes .all) (sizes .obey .whole-pages) (p .order) some
+        (sort-inside k c rows (fit-is k c rows (p .fit) .inside)) (ids .from) went
+
+    -- slots of their own
+    own : apartOf (keptOf s e (w .gs)) ≡ true
+    own =
+        kept-apart s e (w .gs)
+        (slots-apart (sortRows rows) (w .gs) (images-slots area c s e (sortRows rows) false startOf (w .d) (w .gs) (went .walk))
+        ∙ sort-apart rows (fit-is k c rows (p .fit) .apart))
+
+    scan-fits : fitsOf a area′ ≡ true
+    unfolding fitsOf
+    scan-fits =
+        let shaped : shapedOf a ≡ true =
+        ap shapedOf (w .view)
+        ∙ closed-shaped k c m s e (ids .i) (w .d .head) (keptOf s e (w .gs)) (sizes .sizes) (ids .some) (p .order) (keeps .whole) (keeps .head) own in
+        let long : length area′ ≡ a .k * a .c =
+        ap length (w .bytes) ∙ splice-length _ _ area ∙ sizes .all ∙ sym (ap (λ (v : View). v .k * v .c) (w .view)) in
+        both-and (shapedOf a) (eqb (length area′) (a .k * a .c)) shaped (eq-eqb (length area′) (a .k * a .c) long)
+
+  -- EVERY ACCEPTED LOG IS WELL SHAPED, and the area has K x C bytes
+  pub recovered-fits : (a : View) (area′ words : List ℕ) → recoveryOf k c m area rows s e room ≡ recovered a area′ words → fitsOf a area′ ≡ true
+  unfolding fitsOf shapedOf chainOf apartOf endsOf
+  recovered-fits a area′ words q =
+      passed a area′ words q
+      (λ p z w.
+      let sizes = roomy-is k c m (length area) (p .roomy) in
+      let view : emptyOf k c m ≡ a = cc in
+      let bytes : area ≡ area′ = cc in
+      subst (λ (v : View). fitsOf v area′ ≡ true) view
+      (subst (λ (l : List ℕ). fitsOf (emptyOf k c m) l ≡ true) bytes (simp (sizes .sizes, le-leb 0 k (omega arith), eq-eqb (length area) (k * c) (sizes .all)))))
+      (λ p some w. scan-fits p some a area′ words (left a area′ words w))
+
+  -- so the log in its 64 entries is not refused by 2
+  pub recovered-log-fits : (a : View) (area′ words : List ℕ) → recoveryOf k c m area rows s e room ≡ recovered a area′ words
+      → fittingOf (logOf a) (length area′) ≡ true
+  unfolding fittingOf fitsOf
+  recovered-log-fits a area′ words q =
+      let fits = recovered-fits a area′ words q in
+      let few = shaped-few a (and-both (shapedOf a) (eqb (length area′) (a .k * a .c)) fits .0) in
+      simp (plain-log a few, ap shapedOf (view-log a)) fits
+
+  -- "Rows are exactly s..e in order": there are e - s + 1 of them, row i with the id s + i
+  pub recovered-rows : (a : View) (area′ words : List ℕ) → (s ≡ 0 → ⊥) → recoveryOf k c m area rows s e room ≡ recovered a area′ words
+      → RowIds s (e + 1 - s) words
+  recovered-rows a area′ words some q =
+      passed a area′ words q (λ p z w. absurd (some z))
+      (λ p n w.
+      let l = left a area′ words w in
+      subst (RowIds s (e + 1 - s)) (sym (l .index))
+      (scan-rows area c s e (sortRows rows) room (l .d) (l .gs) (omega (arith, some)) (l .out) .rows))
+
+  -- ---- which bytes change
+
+  -- the area but for the bytes from `size` to `x` in one slot
+  pub record Framed (area′ : List ℕ) (slot size x : ℕ) : Type 0 where
+    pub long : length area′ ≡ length area
+    pub others : (j : ℕ) → (slot ≡ j → ⊥) → slotOf c j area′ ≡ slotOf c j area
+    pub before : (i n : ℕ) → i + n ≤ slot * c + size → part i n area′ ≡ part i n area
+    pub behind : (i : ℕ) → slot * c + size ≤ i → slot * c + x ≤ i → drop i area′ ≡ drop i area
+
+  -- the head's slot, the size of its image, and the padded end of e, which is the head's size afterwards
+  pub record Padding (a : View) (area′ : List ℕ) : Type 0 where
+    pub slot : ℕ
+    pub size : ℕ
+    pub framed : Framed area′ slot size (headOf (a .segs) .size)
+    pub head : headOf (a .segs) .slot ≡ slot
+
+  -- nothing changes but the head's missing padding
+  pub recovered-frame : (a : View) (area′ words : List ℕ) → (s ≡ 0 → ⊥) → recoveryOf k c m area rows s e room ≡ recovered a area′ words
+      → Padding a area′
+  recovered-frame a area′ words some q =
+      passed a area′ words q (λ p z w. absurd (some z)) (λ p n w. scan-frame p n (left a area′ words w))
+    where
+      scan-frame : Passed → (s ≡ 0 → ⊥) → Left a area′ words → Padding a area′
+      scan-frame p n w =
+          let kept = keeps p n a area′ words w in
+          let cut = kept .whole .cut in
+          let g : Segment = headOf (keptOf s e (w .gs)) in
+          let is : g ≡ cut .g = ap headOf (cut .is) ∙ head-snoc (cut .hs) (cut .g) in
+          let last = runs-last k c (kept .whole .j) (kept .whole .b) (cut .hs) (cut .g) (cut .runs) in
+          let size : g .size ≤ c = omega (arith, ap (λ (z : Segment). z .size) is, last .1) in
+          let x : ℕ = w .d .head in
+          let fits : x ≤ c = kept .head .fits in
+          let zeros : List ℕ = replicate (x - g .size) 0 in
+          let long : length zeros ≡ x - g .size = length-replicate {A = ℕ} (x - g .size) 0 in
+          let at : ℕ = g .slot * c + g .size in
+          let closed : headOf (a .segs) ≡ closedAt g e x =
+          ap (λ (v : View). headOf (v .segs)) (w .view) ∙ head-snoc (frontOf (keptOf s e (w .gs))) (closedAt g e x) in
+          let end : headOf (a .segs) .size ≡ x = ap (λ (z : Segment). z .size) closed in
+          record {
+            slot = g .slot;
+            size = g .size;
+            framed = record {
+              long = ap length (w .bytes) ∙ splice-length at zeros area;
+              others = λ j apart.
+                  ap (slotOf c j) (w .bytes) ∙ splice-slot c (g .slot) j at zeros area (omega arith) (omega arith) apart;
+              before = λ i l h. ap (part i l) (w .bytes) ∙ splice-before at zeros area i l h;
+              behind = λ i h b. ap (drop i) (w .bytes) ∙ splice-behind at zeros area i (omega arith);
+            };
+            head = ap (λ (z : Segment). z .slot) closed;
+          }
+
+  -- for the range (0, 0) no byte changes and no index word is written
+  pub recovered-empty : (a : View) (area′ words : List ℕ) → s ≡ 0 → recoveryOf k c m area rows s e room ≡ recovered a area′ words
+      → (a ≡ emptyOf k c m) × (area′ ≡ area) × (words ≡ [])
+  recovered-empty a area′ words none q =
+      passed a area′ words q
+      (λ p z w. let view : emptyOf k c m ≡ a = cc in let bytes : area ≡ area′ = cc in let nil : [] ≡ words = cc in (sym view, sym bytes, sym nil))
+      (λ p n w. absurd (n none))
