@@ -40,33 +40,33 @@ fn append(log: Log, area: &mut [u8], text: &[u8]) -> Log {
     appended.log
 }
 
-// Seven texts, over four segments.
-fn archive(area: &mut [u8]) -> Log {
-    let fresh = seglog::new_log(K, C, M, &mut *area);
-    let a = append(fresh.log, &mut *area, b"scan 1001, chest, series 1");
+// Four texts, which fill two segments.
+fn first_scans(log: Log, area: &mut [u8]) -> Log {
+    let a = append(log, &mut *area, b"scan 1001, chest, series 1");
     let b = append(a, &mut *area, b"scan 1001, chest, series 2");
     let c = append(b, &mut *area, b"scan 1002, knee, series 1");
-    let d = append(c, &mut *area, b"scan 1003, skull, series 1");
-    let e = append(d, &mut *area, b"scan 1003, skull, series 2");
-    let f = append(e, &mut *area, b"scan 1004, hand, series 1");
-    append(
-        f,
-        area,
-        b"scan 1004, hand, series 1, taken for another patient's",
-    )
+    append(c, area, b"scan 1003, skull, series 1")
+}
+
+// Three more, the last of them a mistake.
+fn later_scans(log: Log, area: &mut [u8]) -> Log {
+    let a = append(log, &mut *area, b"scan 1003, skull, series 2");
+    let b = append(a, &mut *area, b"scan 1004, hand, series 1");
+    append(b, area, b"scan 1004, hand, series 1, taken for another patient's")
+}
+
+fn archive(area: &mut [u8]) -> Log {
+    let fresh = seglog::new_log(K, C, M, &mut *area);
+    let log = first_scans(fresh.log, &mut *area);
+    later_scans(log, area)
 }
 
 // Recovers s..e from the folder's files, over an area that held nothing.
 fn recover(path: &[u8], s: u64, e: u64) -> bool {
-    let mut area = [0u8; 65536];
+    let mut area = io::large_buffer();
     let mut index = [0u64; 64];
-    let images = image_files::load(
-        path,
-        b"scans",
-        image_files::find(path, b"scans", 1),
-        &mut area,
-        C as usize,
-    );
+    let found = image_files::find(path, b"scans", 1, &mut area);
+    let images = image_files::load(path, b"scans", found, &mut area, C as usize);
     let recovered = recovery::recover_rows(K, C, M, &mut area, images, s, e, &mut index);
     if !done(b"recover from the files", recovered.refusal, recovered.log) {
         return false;
@@ -75,10 +75,17 @@ fn recover(path: &[u8], s: u64, e: u64) -> bool {
     true
 }
 
+// Removes the images of an earlier run or state.
+fn clear(path: &[u8]) {
+    let mut area = io::large_buffer();
+    let found = image_files::find(path, b"scans", 1, &mut area);
+    image_files::remove(path, b"scans", found);
+}
+
 // Writes the log's images and recovers its live range from them.
 fn written_and_recovered(path: &[u8], log: Log, area: &[u8]) -> bool {
-    image_files::remove(path, b"scans", image_files::find(path, b"scans", 1));
-    if !image_files::save(path, b"scans", listing::images_of(log), area, C as usize) {
+    clear(path);
+    if !image_files::save(path, b"scans", log, area) {
         say(b"the folder cannot be written\n");
         return false;
     }
@@ -86,7 +93,7 @@ fn written_and_recovered(path: &[u8], log: Log, area: &[u8]) -> bool {
 }
 
 fn run(path: &[u8]) -> bool {
-    let mut area = [0u8; 65536];
+    let mut area = io::large_buffer();
     let log = archive(&mut area);
     let whole = written_and_recovered(path, log, &area);
     let recent = seglog_prune::prune_recent(log, &mut area, 6);
@@ -101,11 +108,7 @@ fn run(path: &[u8]) -> bool {
 fn main() {
     let mut path = io::buffer();
     let given = os::arg(1, &mut path);
-    let good = if given == 0 {
-        run(b".")
-    } else {
-        run(&path[..given])
-    };
+    let good = if given == 0 { run(b".") } else { run(&path[..given]) };
     if good {
         say(b"ok, 7 records appended, 5 live and recovered from the files\n");
     } else {

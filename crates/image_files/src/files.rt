@@ -1,8 +1,5 @@
-// One image's file: its path, written, removed, measured and read.
+// One image's file: its path; written, removed and read.
 use segment_filename::Formatted;
-
-// Where a file ends, for lseek.
-const SEEK_END: i32 = 2;
 
 // FOLDER/NAME over the front of out; its length, 0 where there is no such name or no room.
 fn path_into(folder: &[u8], prefix: &[u8], id: u32, out: &mut [u8]) -> usize {
@@ -51,15 +48,14 @@ fn open(folder: &[u8], prefix: &[u8], id: u32) -> i32 {
     os::open_read(slices::front(&path, n))
 }
 
-// How many bytes an image's file has, or -1 where it cannot be opened.
-pub(crate) fn size(folder: &[u8], prefix: &[u8], id: u32) -> i64 {
+// Whether there is such a file.
+pub(crate) fn is_there(folder: &[u8], prefix: &[u8], id: u32) -> bool {
     let file = open(folder, prefix, id);
     if file < 0 {
-        return -1;
+        return false;
     }
-    let end = libc::lseek(file, 0, SEEK_END);
     libc::close(file);
-    end
+    true
 }
 
 // Reads an image into its slot; how many bytes came, at most the slot's.

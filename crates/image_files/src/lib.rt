@@ -2,6 +2,7 @@
 // What a file holds is no part of any contract. Each function says by its answer whether the calls worked.
 use recovery::Rows;
 use recovery_walk::ImageRow;
+use seglog::Log;
 
 mod files;
 
@@ -9,7 +10,7 @@ mod files;
 pub struct Found {
     pub first: u32,
     pub count: usize,
-    pub largest: u64,
+    pub largest: usize,
 }
 
 // The id of the first image that is there, among 65536; 0 where none is.
@@ -17,7 +18,7 @@ fn first_there(folder: &[u8], prefix: &[u8], from: u32) -> u32 {
     let mut id = from;
     let mut left: u64 = 65536;
     while 0 < left {
-        if 0 <= files::size(folder, prefix, id) {
+        if files::is_there(folder, prefix, id) {
             return id;
         }
         id = std::num::wrapping_add_u32(id, 1);
@@ -26,19 +27,19 @@ fn first_there(folder: &[u8], prefix: &[u8], from: u32) -> u32 {
     0
 }
 
-// The images from the first that is there up to the first that is missing, 64 at most.
-pub fn find(folder: &[u8], prefix: &[u8], from: u32) -> Found {
+// The images from the first that is there up to the first that is missing, 64 at most. The area is only where they are read to.
+pub fn find(folder: &[u8], prefix: &[u8], from: u32, area: &mut [u8]) -> Found {
     let first = first_there(folder, prefix, from);
     let mut count: usize = 0;
-    let mut largest: u64 = 0;
+    let mut largest: usize = 0;
     let mut id = first;
     while count < 64 {
-        let size = files::size(folder, prefix, id);
-        if size < 0 {
+        if !files::is_there(folder, prefix, id) {
             break;
         }
-        if largest < size as u64 {
-            largest = size as u64;
+        let size = files::load(folder, prefix, id, &mut *area);
+        if largest < size {
+            largest = size;
         }
         id = std::num::wrapping_add_u32(id, 1);
         count += 1;
@@ -48,6 +49,18 @@ pub fn find(folder: &[u8], prefix: &[u8], from: u32) -> Found {
         count,
         largest,
     }
+}
+
+// Reads an image into the slot of c bytes at `at`; how many bytes came, none where the area has no such slot.
+fn load_at(folder: &[u8], prefix: &[u8], id: u32, area: &mut [u8], at: usize, c: usize) -> usize {
+    if area.len() < at {
+        return 0;
+    }
+    if area.len() - at < c {
+        return 0;
+    }
+    let end = at + c;
+    files::load(folder, prefix, id, &mut area[at..end])
 }
 
 // Reads each image into a slot of its own: the image rows.
@@ -68,30 +81,17 @@ pub fn load(folder: &[u8], prefix: &[u8], found: Found, area: &mut [u8], c: usiz
         if area.len() - at < c {
             break;
         }
-        let end = at + c;
-        let size = files::load(folder, prefix, id, &mut area[at..end]);
+        let size = load_at(folder, prefix, id, &mut *area, at, c);
         rows[i] = ImageRow {
             id,
             slot: i as u32,
             size: size as u64,
         };
         id = std::num::wrapping_add_u32(id, 1);
-        at = end;
+        at += c;
         i += 1;
     }
     Rows { count: i, rows }
-}
-
-// A row's image, as a part of the area.
-pub fn image_of<'a>(area: &'a [u8], c: usize, row: ImageRow) -> &'a [u8] {
-    if 2147483648 < c {
-        return &area[..0];
-    }
-    if 2147483648 < row.size {
-        return &area[..0];
-    }
-    let from = row.slot as usize * c;
-    slices::between(area, from, from + row.size as usize)
 }
 
 // Removes the images that were found, whose ids follow each other.
@@ -105,15 +105,16 @@ pub fn remove(folder: &[u8], prefix: &[u8], found: Found) {
     }
 }
 
-// Writes the image of each row; whether all could be written.
-pub fn save(folder: &[u8], prefix: &[u8], images: Rows, area: &[u8], c: usize) -> bool {
+// Writes the image of each listed segment; whether all could be written.
+pub fn save(folder: &[u8], prefix: &[u8], log: Log, area: &[u8]) -> bool {
     let mut i: usize = 0;
     while i < 64 {
-        if images.count <= i {
+        if log.count <= i {
             break;
         }
-        let row = images.rows[i];
-        if !files::save(folder, prefix, row.id, image_of(area, c, row)) {
+        let segment = log.segs[i];
+        let image = payload::payload(log, area, 0, segment.slot as u64, 0, segment.size);
+        if !files::save(folder, prefix, segment.id, image) {
             return false;
         }
         i += 1;

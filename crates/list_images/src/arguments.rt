@@ -47,7 +47,7 @@ pub(crate) fn first() -> u32 {
     id as u32
 }
 
-pub(crate) fn range() -> Range {
+pub(crate) fn asked() -> Range {
     Range {
         given: 6 <= os::arg_count(),
         start: numbered(4),

@@ -1,30 +1,17 @@
 // The slots that images need, and the first and the last record that they hold.
 use record::HeaderAnswer;
 use recovery::Rows;
+use seglog::Log;
 
-// The slot that an image of this size needs: whole pages, one at least; 2^31 where it is too large for any slot.
-pub(crate) fn slot_size(largest: u64) -> usize {
+// The slot that an image of this size needs: whole pages, one at least; 2^31 where no slot is large enough.
+pub(crate) fn slot_size(largest: usize) -> usize {
     if largest == 0 {
         return 4096;
     }
     if 2147483648 < largest {
         return 2147483648;
     }
-    ((largest + 4095) / 4096 * 4096) as usize
-}
-
-// The bytes of as many slots; one at least.
-pub(crate) fn room(count: usize, c: usize) -> usize {
-    if count == 0 {
-        return c;
-    }
-    if 64 < count {
-        return 18446744073709551615;
-    }
-    if 2147483648 < c {
-        return 18446744073709551615;
-    }
-    count * c
+    (largest + 4095) / 4096 * 4096
 }
 
 // The id of an image's first record, 0 where there is none.
@@ -60,12 +47,20 @@ fn last_id(image: &[u8]) -> u64 {
     last
 }
 
+// The image of row i, as a part of the area.
+fn image<'a>(log: Log, area: &'a [u8], images: Rows, i: usize) -> &'a [u8] {
+    if 64 <= i {
+        return &area[..0];
+    }
+    let row = images.rows[i];
+    payload::payload(log, area, 0, row.slot as u64, 0, row.size)
+}
+
 // The first record of all images, 0 where there is none.
-pub(crate) fn first_record(area: &[u8], c: usize, images: Rows) -> u64 {
+pub(crate) fn first_record(log: Log, area: &[u8], images: Rows) -> u64 {
     let mut i: usize = 0;
     while i < 64 {
-        let row = images.rows[i];
-        let id = first_id(image_files::image_of(area, c, row));
+        let id = first_id(image(log, area, images, i));
         if id != 0 {
             return id;
         }
@@ -75,12 +70,11 @@ pub(crate) fn first_record(area: &[u8], c: usize, images: Rows) -> u64 {
 }
 
 // The last record of all images, 0 where there is none.
-pub(crate) fn last_record(area: &[u8], c: usize, images: Rows) -> u64 {
+pub(crate) fn last_record(log: Log, area: &[u8], images: Rows) -> u64 {
     let mut last: u64 = 0;
     let mut i: usize = 0;
     while i < 64 {
-        let row = images.rows[i];
-        let id = last_id(image_files::image_of(area, c, row));
+        let id = last_id(image(log, area, images, i));
         if id != 0 {
             last = id;
         }

@@ -33,7 +33,7 @@ fn list(area: &mut [u8], c: u64, images: recovery::Rows, s: u64, e: u64) {
 // Reads the images that were found, and lists them.
 fn list_found(folder: &[u8], prefix: &[u8], found: Found, area: &mut [u8]) {
     let c = images::slot_size(found.largest);
-    let room = images::room(found.count, c);
+    let room = slices::room(found.count as u64, c as u64);
     if area.len() < room {
         report::named(b"refused 1: images that need", room as u64);
         report::named(b" bytes, and there are", area.len() as u64);
@@ -42,13 +42,14 @@ fn list_found(folder: &[u8], prefix: &[u8], found: Found, area: &mut [u8]) {
     }
     let used = &mut area[..room];
     let rows = image_files::load(folder, prefix, found, &mut *used, c);
-    let asked = arguments::range();
+    let asked = arguments::asked();
     if asked.given {
         list(used, c as u64, rows, asked.start, asked.end);
         return;
     }
-    let first = images::first_record(used, c, rows);
-    let last = images::last_record(used, c, rows);
+    let empty = seglog::new_log(rows.count as u64, c as u64, c as u64, &mut *used);
+    let first = images::first_record(empty.log, used, rows);
+    let last = images::last_record(empty.log, used, rows);
     list(used, c as u64, rows, first, last);
 }
 
@@ -61,17 +62,8 @@ fn work(area: &mut [u8]) {
         say(b"refused 30: list_images FOLDER PREFIX [FIRST [S E]]\n");
         return;
     }
-    let found = image_files::find(
-        &folder[..folder_length],
-        &prefix[..prefix_length],
-        arguments::first(),
-    );
-    list_found(
-        &folder[..folder_length],
-        &prefix[..prefix_length],
-        found,
-        area,
-    );
+    let found = image_files::find(&folder[..folder_length], &prefix[..prefix_length], arguments::first(), &mut *area);
+    list_found(&folder[..folder_length], &prefix[..prefix_length], found, area);
 }
 
 fn main() {

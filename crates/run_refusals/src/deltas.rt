@@ -5,7 +5,8 @@ use delta::Table;
 
 fn decode(input: &[u8]) -> u32 {
     let decoded = delta::decode(input);
-    answers::decoding(decoded.answer)
+    let answer = decoded.answer;
+    answers::decoding(answer)
 }
 
 // A delta that erases one key twice.

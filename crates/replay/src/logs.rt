@@ -1,0 +1,160 @@
+// Lines L, A, O, R and V: histories of a log, with the log and its segments' bytes compared after each call.
+use crate::digest;
+use crate::fields;
+use seglog::Log;
+use seglog::Logged;
+use seglog::Segment;
+
+// Whether the answer was the recorded one, and the log after it.
+pub(crate) struct Turn {
+    pub(crate) good: bool,
+    pub(crate) log: Log,
+}
+
+fn judged(good: bool, answer: Logged) -> Turn {
+    let log = answer.log;
+    Turn { good, log }
+}
+
+// L K C M
+pub(crate) fn started(line: &[u8], area: &mut [u8]) -> Turn {
+    let k = fields::short_hex(fields::word(line, 1)) as u64;
+    let c = fields::short_hex(fields::word(line, 2)) as u64;
+    let m = fields::short_hex(fields::word(line, 3)) as u64;
+    let room = slices::room(k, c);
+    if area.len() < room {
+        return judged(false, seglog::new_log(0, 0, 0, area));
+    }
+    let fresh = seglog::new_log(k, c, m, &mut area[..room]);
+    judged(fresh.refusal == 0, fresh)
+}
+
+// Whether a segment is the one that the 64 digits give: id, size, min, max and the digest of its bytes.
+fn segment_same(segment: Segment, image: &[u8], digits: &[u8]) -> bool {
+    let id = fields::hex(slices::between(digits, 0, 8)) == segment.id as u64;
+    let size = fields::hex(slices::between(digits, 8, 16)) == segment.size;
+    let min = fields::hex(slices::between(digits, 16, 32)) == segment.min;
+    let max = fields::hex(slices::between(digits, 32, 48)) == segment.max;
+    let bytes = fields::hex(slices::between(digits, 48, 64)) == digest::of(digest::START, image);
+    id & size & min & max & bytes
+}
+
+// Whether the log has as many segments as the word, and these.
+fn segments_same(log: Log, area: &[u8], digits: &[u8]) -> bool {
+    let mut at: usize = 0;
+    let mut i: usize = 0;
+    while i < 64 {
+        if log.count <= i {
+            break;
+        }
+        let segment = log.segs[i];
+        let image = payload::payload(log, area, 0, segment.slot as u64, 0, segment.size);
+        if !segment_same(segment, image, slices::between(digits, at, at + 64)) {
+            return false;
+        }
+        at += 64;
+        i += 1;
+    }
+    if at == 0 {
+        return fields::same(digits, b"-");
+    }
+    at == digits.len()
+}
+
+// STATE: start end segments, from word i on.
+fn state_same(log: Log, area: &[u8], line: &[u8], i: usize) -> bool {
+    if 64 < i {
+        return false;
+    }
+    let start = fields::hex(fields::word(line, i)) == log.start;
+    let end = fields::hex(fields::word(line, i + 1)) == log.end;
+    start & end & segments_same(log, area, fields::word(line, i + 2))
+}
+
+// Byte i is fill + i modulo 256.
+fn fill(payload: &mut [u8], first: u32) {
+    let mut value = first;
+    let mut i: usize = 0;
+    while i < payload.len() {
+        payload[i] = (value % 256) as u8;
+        value = std::num::wrapping_add_u32(value, 1);
+        i += 1;
+    }
+}
+
+// A DD length fill NN id STATE
+pub(crate) fn appended(line: &[u8], log: Log, area: &mut [u8], payload: &mut [u8]) -> Turn {
+    let length = fields::short_hex(fields::word(line, 2)) as usize;
+    fill(&mut *payload, fields::short_hex(fields::word(line, 3)));
+    let wanted = fields::wanted(line, 4);
+    let appended = seglog_append::append(log, &mut *area, slices::front(payload, length));
+    let id = fields::hex(fields::word(line, 5));
+    let answer = (appended.refusal == wanted) & ((wanted != 0) | (appended.id == id));
+    let next = appended.log;
+    Turn {
+        good: answer & state_same(next, area, line, 6),
+        log: next,
+    }
+}
+
+// The rest of a line of a prune.
+fn pruned(line: &[u8], answer: Logged, area: &[u8]) -> Turn {
+    let same = state_same(answer.log, area, line, 4);
+    judged((answer.refusal == fields::wanted(line, 3)) & same, answer)
+}
+
+// O DD id NN STATE
+pub(crate) fn oldest(line: &[u8], log: Log, area: &mut [u8]) -> Turn {
+    let answer = seglog_prune::prune_oldest(log, &mut *area, fields::hex(fields::word(line, 2)));
+    pruned(line, answer, area)
+}
+
+// R DD id NN STATE
+pub(crate) fn recent(line: &[u8], log: Log, area: &mut [u8]) -> Turn {
+    let answer = seglog_prune::prune_recent(log, &mut *area, fields::hex(fields::word(line, 2)));
+    pruned(line, answer, area)
+}
+
+// The digest with one delivered record: its id and its payload.
+fn delivered(sum: u64, log: Log, area: &[u8], id: u64, slot: u64, offset: u64, length: u64) -> u64 {
+    digest::of(digest::of_number(sum, id), payload::payload(log, area, id, slot, offset, length))
+}
+
+// The digest of what the first `count` index rows deliver.
+fn all_delivered(log: Log, area: &[u8], index: &[u64], count: u64) -> u64 {
+    let mut sum = digest::START;
+    let mut left = count;
+    let mut at: usize = 0;
+    while 0 < left {
+        if index.len() - at < 4 {
+            return 0;
+        }
+        sum = delivered(sum, log, area, index[at], index[at + 1], index[at + 2], index[at + 3]);
+        at += 4;
+        left -= 1;
+    }
+    sum
+}
+
+// V DD s e NN digest STATE
+pub(crate) fn recovered(line: &[u8], log: Log, area: &mut [u8]) -> Turn {
+    let mut index = [0u64; 256];
+    let s = fields::hex(fields::word(line, 2));
+    let e = fields::hex(fields::word(line, 3));
+    let wanted = fields::wanted(line, 4);
+    let images = listing::images_of(log);
+    let answer = recovery::recover_rows(log.k, log.c, log.m, &mut *area, images, s, e, &mut index);
+    if answer.refusal != 0 {
+        return Turn {
+            good: (answer.refusal == wanted) & state_same(log, area, line, 6),
+            log,
+        };
+    }
+    let sum = fields::hex(fields::word(line, 5));
+    let payloads = all_delivered(answer.log, area, &index, answer.rows) == sum;
+    let next = answer.log;
+    Turn {
+        good: (wanted == 0) & payloads & state_same(next, area, line, 6),
+        log: next,
+    }
+}
