@@ -39,12 +39,12 @@ static void read_asked(asked *it, input from) {
     uint64_t k = next(&from, 1), pages = next(&from, 1), halves = next(&from, 1);
     it->k = k == 255 ? 0 : k % 5 + 1;
     it->c = pages == 255 ? 0 : (pages % 3 + 1) * PAGE;
-    it->m = halves % 8 * (PAGE / 2);
+    it->m = halves == 255 ? it->c + 1 : halves % (it->c / (PAGE / 2) + 1) * (PAGE / 2);
     it->rows = next(&from, 1) % 7;
     it->words = next(&from, 1);
     uint64_t flags = next(&from, 3);
     it->at_front = flags & 1;
-    it->area_length = it->k * it->c + ((flags & 6) == 6);
+    it->area_length = it->k * it->c + ((flags & 30) == 30);
     it->s = next(&from, 8);
     it->e = next(&from, 8);
     read_rows(it, &from);

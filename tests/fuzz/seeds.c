@@ -10,7 +10,7 @@ static void save(const char *file, const void *bytes, size_t length) {
 
 /* Two segments of two one-page records, ids from `first` on; asked for all but the first. */
 static void images(const char *file, uint64_t first, uint16_t last_size, uint32_t length) {
-    uint8_t bytes[24 + 2 * 8 + 4 * 16] = {2, 1, 4, 2, 12, 0, 0, 0}, *at = bytes + 8;
+    uint8_t bytes[24 + 2 * 8 + 4 * 16] = {2, 1, 4, 2, 200, 0, 0, 0}, *at = bytes + 8;
     uint64_t s = first + 1, e = first + 3;
     memcpy(at, &s, 8);
     memcpy(at + 8, &e, 8);
