@@ -1,5 +1,5 @@
-//! Refusals of the log's functions that no history reaches: made-up log values (2, 4, 5), sizes (1, 3, 7), images damaged under a cut (10).
-//! And the one write of prune recent, the padding that was missing.
+//! Refusals of the log's functions that no history reaches: made-up log values (2, 4, 5), sizes (1, 3, 7), images damaged under a cut (10);
+//! prunes outside a live range (8, 9); and the one write of prune recent, the padding that was missing.
 
 use crate::archive::{hold, Archive, Checked, NO_LOG, NO_SEGMENT};
 use crate::ffi::{Log, Segment};
@@ -35,6 +35,7 @@ pub fn run(archive: &mut Archive) -> Checked<()> {
     new_log(archive)?;
     not_well_shaped(archive)?;
     appends(archive)?;
+    prunes(archive)?;
     cuts(archive)?;
     missing_padding(archive)
 }
@@ -139,6 +140,20 @@ fn appends(archive: &mut Archive) -> Checked<()> {
     same("6 before 7", archive.append(&Log { slots: 2, ..full }, &area[..16384], &dirty(9000))?.0.refusal, 6)?;
     same("above C in a new segment", archive.append(&full, &area, &dirty(8181))?.0.refusal, 7)?;
     same("exactly C in a new segment", archive.append(&full, &area, &dirty(8180))?.0.refusal, 0)
+}
+
+/// Outside the live range 2..4; the easy outcomes come before 8 and 9.
+fn prunes(archive: &mut Archive) -> Checked<()> {
+    let (mut log, area) = four_records();
+    log.start_live = 2;
+    let empty = Log { start_live: 0, end_live: 0, count: 0, segments: [NO_SEGMENT; 64], ..log };
+    for (log, id, number) in [(log, 5, 8), (log, u64::MAX, 8), (log, (1 << 32) + 3, 8), (log, 1, 9), (log, 0, 0), (empty, 9, 0)] {
+        let (oldest, recent) = (archive.prune_oldest(&log, &area, id)?, archive.prune_recent(&log, &area, id)?.0);
+        same(&format!("prune oldest to {id}"), oldest.refusal, number)?;
+        same(&format!("prune recent to {id}"), recent.refusal, number)?;
+        hold(number > 0 || (oldest.log == empty && recent.log == empty), "an easy prune does not give the empty log")?;
+    }
+    Ok(())
 }
 
 /// Damage to the segment that a cut to 2 walks, and the number of the answer. The log lists it with this size.

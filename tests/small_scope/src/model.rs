@@ -1,7 +1,7 @@
 //! What document 01 expects of a log that came from calls alone: segments as lists of the records that were appended to them.
 //! It reads no bytes: a recovery from the log's own images and a cut are found in the lists.
 
-use crate::archive::{NO_LOG, NO_SEGMENT};
+use crate::archive::NO_SEGMENT;
 use crate::ffi;
 
 const PAGE: u64 = 4096;
@@ -94,7 +94,7 @@ impl Model {
             *row = ffi::Segment { id: segment.id, slot: segment.slot, size: segment.size(), min, max };
         }
         let count = self.segments.len() as u64;
-        ffi::Log { slots, capacity, soft_size, start_live: self.start, end_live: self.end, count, segments, ..NO_LOG }
+        ffi::Log { slots, capacity, soft_size, start_live: self.start, end_live: self.end, count, segments }
     }
 
     /// The rows of the log's own images, in the order of their segment ids.

@@ -1,0 +1,74 @@
+/* Writes the first inputs of the fuzz drivers, one file each: a few images that are recovered, deltas and names that are accepted.
+ * The folders recover, decode, encode and parse must be there, in the folder it is run in. */
+#include "iflughan.h"
+#include "lent.h"
+
+static void save(const char *file, const void *bytes, size_t length) {
+    FILE *out = fopen(file, "wb");
+    HOLD(out && fwrite(bytes, 1, length, out) == length && fclose(out) == 0);
+}
+
+/* Two segments of two one-page records, ids from `first` on; asked for all but the first. */
+static void images(const char *file, uint64_t first, uint16_t last_size, uint32_t length) {
+    uint8_t bytes[24 + 2 * 8 + 4 * 16] = {2, 1, 4, 2, 200, 0, 0, 0}, *at = bytes + 8;
+    uint64_t s = first + 1, e = first + 3;
+    memcpy(at, &s, 8);
+    memcpy(at + 8, &e, 8);
+    at += 16;
+    for (uint8_t i = 0; i < 2; i++, at += 8) {
+        uint16_t size = i ? last_size : 8192;
+        memcpy(at, (uint8_t[]){7 + i, 0, 0, 0, 2 - i, 0, size & 255, size >> 8}, 8);
+    }
+    for (uint8_t i = 0; i < 4; i++, at += 16) {
+        uint64_t id = first + i;
+        memcpy(at, (uint8_t[]){2 - i / 2, i % 2, 0, 0}, 4);
+        memcpy(at + 4, &length, 4);
+        memcpy(at + 8, &id, 8);
+    }
+    save(file, bytes, sizeof bytes);
+}
+
+/* A delta of as many keys, every other one erased; a flag before it. */
+static void delta(const char *file, uint64_t count) {
+    static iflughan_delta table;
+    static uint8_t bytes[ROOM];
+    memset(&table, 0, sizeof table);
+    table.count = count;
+    for (uint64_t i = 0; i < count; i++) {
+        memcpy(table.rows[i].key, &(uint64_t){count - i}, 8);
+        table.rows[i].present = i % 2;
+        table.rows[i].length = i % 2 ? i % 5 : 0;
+    }
+    iflughan_written written = iflughan_delta_encode(table, (const uint8_t *)"value", 5, bytes + 1, sizeof bytes - 1);
+    HOLD(written.refusal == 0);
+    save(file, bytes, 1 + written.length);
+}
+
+/* Rows for encoding; every third is erased. */
+static void rows(const char *file, uint8_t count, uint16_t room) {
+    uint8_t bytes[6 + 4 * 256] = {0, count, 0, 200, room & 255, room >> 8};
+    for (int i = 0; i < count; i++) memcpy(bytes + 6 + 4 * i, (uint8_t[]){32 * (i / 32 + 1) + i % 32, i % 3, i, i % 7}, 4);
+    save(file, bytes, 6 + 4 * (size_t)count);
+}
+
+static void name(const char *file, const char *prefix, const char *rest) {
+    uint8_t bytes[128] = {0, strlen(prefix), 1, 0, 0, 0, 40};
+    int length = snprintf((char *)bytes + 7, sizeof bytes - 7, "%s%s%s", prefix, prefix, rest);
+    save(file, bytes, 7 + length);
+}
+
+int main(void) {
+    images("recover/whole", 1, 8192, 3);
+    images("recover/torn", 6, 4096 + 15, 3);
+    images("recover/last-ids", UINT64_MAX - 3, 8192, 4084);
+    delta("decode/empty", 0);
+    delta("decode/two", 2);
+    delta("decode/many", 40);
+    delta("decode/full", 256);
+    rows("encode/three", 3, 200);
+    rows("encode/many", 200, 60000);
+    name("parse/digits", "rollback", ".0000000001.log");
+    name("parse/plus", "a", ".+000000001.log");
+    name("parse/highest", ".log", ".4294967295.log");
+    return 0;
+}
