@@ -15,15 +15,12 @@ use denote.Enum.Declared.{tagOf}
 use Rattle.lists.specs.Choice.{pick, _⇒_, first}
 use Rattle.seglog.specs.declared.Log.{Log}
 use Rattle.seglog.specs.Log.{fittingOf, plainOf, shapedOf, viewOf}
+use Rattle.seglog.proofs.Bools.{and-both}
 use Rattle.payload.specs.declared.RowAnswer.{RowAnswer}
 use Rattle.payload.specs.declared.RowAnswer.the-variants.{Good, NotShaped, Outside}
-use Rattle.payload.specs.Payload.{outsideOf, rowQuestion, payloadBy, payloadOf}
+use Rattle.payload.specs.Payload.{rowNumber, outsideOf, rowQuestion, GoodRow, payloadBy, payloadOf}
+use Rattle.payload.specs.PayloadDelta.{noDelta, deltaAnswer, payloadDeltaBy, payloadDelta}
 use Rattle.payload.proofs.RowAnswer.{the-type}
-
--- both hold where the last of two tests joined does
-last-holds : (a b : Bool) → (a && b) ≡ true → b ≡ true
-last-holds true b h = h
-last-holds false b h = let z : _≡_ {A = Bool} false true = h in absurd (let y : _≡_ {A = ℕ} 0 1 = cc in omega arith)
 
 -- neither holds where two tests joined by "or" do not
 none-first : (a b : Bool) → (a || b) ≡ false → a ≡ false
@@ -38,13 +35,8 @@ none-last false b h = h
 pub fitting-whole : (l : Log) (n : ℕ) → fittingOf l n ≡ true → n ≡ l .k * l .c
 unfolding fittingOf
 fitting-whole l n h =
-    eqb-true n (l .k * l .c) (last-holds (shapedOf (viewOf l)) (eqb n (l .k * l .c)) (last-holds (plainOf l) _ h))
-
--- what is known of a good row
-pub record GoodRow (l : Log) (area : List ℕ) (slot offset n : ℕ) : Type 0 where
-  pub listed : slot < l .k
-  pub inside : offset + n ≤ l .c
-  pub ends : slot * l .c + offset + n ≤ length area
+    let t = and-both (plainOf l) (shapedOf (viewOf l) && eqb n (l .k * l .c)) h in
+    eqb-true n (l .k * l .c) (and-both (shapedOf (viewOf l)) (eqb n (l .k * l .c)) (t .1) .1)
 
 -- a slot's end is inside K slots
 slot-ends : (k c slot x : ℕ) → slot < k → x ≤ c → slot * c + x ≤ k * c
@@ -84,6 +76,23 @@ module _ (l : Log) (area : List ℕ) (slot offset n : ℕ) where
       → payloadOf l area slot offset n ≡ []
   unfolding payloadOf
   payload-none q e o = ap (payloadBy l area slot offset n) (sym e) ∙ other-none q o
+
+  -- a good row's payload goes to the decoder
+  pub delta-good : (q : RowAnswer) → q ≡ rowQuestion l area slot offset n → q ≡ Good
+      → payloadDelta l area slot offset n ≡ payloadDeltaBy l area slot offset n Good
+  unfolding payloadDelta
+  delta-good q e g = ap (payloadDeltaBy l area slot offset n) (sym e ∙ g)
+
+  other-delta : (q : RowAnswer) → OneOf (1 ∷ 2 ∷ []) (tagOf the-type q) → payloadDeltaBy l area slot offset n q ≡ noDelta (rowNumber q)
+  other-delta Good o = absurd (⊎-elim (λ z. omega arith) (λ z. omega arith) o)
+  other-delta NotShaped o = refl
+  other-delta Outside o = refl
+
+  -- a row that isn't good gives its number
+  pub delta-none : (q : RowAnswer) → q ≡ rowQuestion l area slot offset n → OneOf (1 ∷ 2 ∷ []) (tagOf the-type q)
+      → payloadDelta l area slot offset n ≡ noDelta (rowNumber q)
+  unfolding payloadDelta
+  delta-none q e o = ap (payloadDeltaBy l area slot offset n) (sym e) ∙ other-delta q o
 
   -- 2, then 24, then good
   pub row-unshaped : fittingOf l (length area) ≡ false → rowQuestion l area slot offset n ≡ NotShaped

@@ -9,12 +9,14 @@ use Rattle.payload.proofs.row_number.Reads as number
 use Rattle.payload.proofs.row_number.Kinds as Number
 use Rattle.payload.proofs.row_question.Reads as question
 use Rattle.payload.proofs.row_question.Kinds as Question
+use Rattle.payload.proofs.payload_delta.Reads as decoded
+use Rattle.payload.proofs.payload_delta.Kinds as Decoded
 use Rattle.payload.proofs.payload.Reads as part
 use Rattle.payload.proofs.payload.Kinds as Part
 
 -- a row's number
-pub row-number-unique : (κs : Lfts 0) (a : Dens κs Number.ps) (r r′ : resT Number.r κs .Denot) (e e′ : AtExit (endedOf 0 Number.ps Number.r) κs)
-    → number.Learnt κs a r e → number.Learnt κs a r′ e′ → r ≡ r′
+pub row-number-unique : (κs : Lfts 0) (a : Dens κs Number.ps) (r r′ : resT Number.r κs .Denot)
+    (e e′ : AtExit (endedOf 0 Number.ps Number.r) κs) → number.Learnt κs a r e → number.Learnt κs a r′ e′ → r ≡ r′
 row-number-unique κs a r r′ e e′ p q = p ∙ sym q
 
 -- the row question
@@ -26,3 +28,8 @@ row-question-unique κs a r r′ e e′ p q = p ∙ sym q
 pub payload-unique : (κs : Lfts 1) (a : Dens κs Part.ps) (r r′ : resT Part.r κs .Denot) (e e′ : AtExit (endedOf 1 Part.ps Part.r) κs)
     → part.Learnt κs a r e → part.Learnt κs a r′ e′ → now r ≡ now r′
 payload-unique κs a r r′ e e′ p q = p ∙ sym q
+
+-- the payload decoded
+pub payload-delta-unique : (κs : Lfts 1) (a : Dens κs Decoded.ps) (r r′ : resT Decoded.r κs .Denot)
+    (e e′ : AtExit (endedOf 1 Decoded.ps Decoded.r) κs) → decoded.Learnt κs a r e → decoded.Learnt κs a r′ e′ → r ≡ r′
+payload-delta-unique κs a r r′ e e′ p q = p ∙ sym q

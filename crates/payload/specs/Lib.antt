@@ -1,1 +1,2 @@
 pub mod Payload
+pub mod PayloadDelta

@@ -1,7 +1,7 @@
 -- An index row asked for: 2, 24 or good, and its payload as a part of the area. Assumes nothing.
 use mathlib.Core.List.{List, [], _∷_}
 use mathlib.Core.Bool.{Bool, _||_, not}
-use Prim.Native.Nat.{ℕ, _+_, _*_}
+use Prim.Native.Nat.{ℕ, _+_, _*_, _≤_, _<_}
 use lib.ListN.{length}
 use lib.Dec.{ltb, leb}
 use Rattle.lists.specs.Choice.{_⇒_, first}
@@ -25,6 +25,12 @@ outsideOf l slot offset n = leb (l .k) slot || ltb (l .c) (offset + n)
 unfoldable pub rowQuestion : Log → List ℕ → (slot offset length : ℕ) → RowAnswer
 rowQuestion l area slot offset n =
     first ((not (fittingOf l (length area)) ⇒ NotShaped) ∷ (outsideOf l slot offset n ⇒ Outside) ∷ []) Good
+
+-- a good row's slot is one of the log's, and its payload ends inside the slot and so inside the area
+pub record GoodRow (l : Log) (area : List ℕ) (slot offset n : ℕ) : Type 0 where
+  pub listed : slot < l .k
+  pub inside : offset + n ≤ l .c
+  pub ends : slot * l .c + offset + n ≤ length area
 
 -- the payload of a good row, as a part of the area; "where it isn't good, the part handed back is empty"
 abbrev pub payloadBy : Log → List ℕ → (slot offset length : ℕ) → RowAnswer → List ℕ

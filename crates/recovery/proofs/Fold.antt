@@ -36,18 +36,22 @@ up-next xs i h g =
     ap (λ (z : List ImageRow). set (take i xs ++ z) i (getD xs i noRow)) (zeros-more (64 - i) (64 - (i + 1)) n)
     ∙ set-at (take i xs) noRow (replicate (64 - (i + 1)) noRow) (getD xs i noRow) i long
     ∙ sym (append-snoc (take i xs) (getD xs i noRow) (replicate (64 - (i + 1)) noRow))
-    ∙ ap (λ (z : List ImageRow). z ++ replicate (64 - (i + 1)) noRow) (sym (take-suc xs i noRow h) ∙ ap (λ (k : ℕ). take k xs) (sym (add-one i))) in
+    ∙ ap (λ (z : List ImageRow). z ++ replicate (64 - (i + 1)) noRow)
+    (sym (take-suc xs i noRow h) ∙ ap (λ (k : ℕ). take k xs) (sym (add-one i))) in
     ap (λ (z : List ImageRow). record { count = i + 1; rows = z }) (sym more)
 
 -- all of them
 pub up-all : (xs : List ImageRow) → length xs ≤ 64 → upTo xs (length xs) ≡ rowsOf xs
 unfolding upTo rowsOf
 up-all xs h =
-    ap (λ (z : List ImageRow). record { count = length xs; rows = z ++ replicate (64 - length xs) noRow }) (take-all (length xs) xs (omega arith))
-    ∙ sym (ap (λ (t : Bool). pick t (record { count = length xs; rows = xs ++ replicate (64 - length xs) noRow }) tooMany) (le-leb (length xs) 64 h))
+    ap (λ (z : List ImageRow). record { count = length xs; rows = z ++ replicate (64 - length xs) noRow })
+    (take-all (length xs) xs (omega arith))
+    ∙ sym (ap (λ (t : Bool). pick t (record { count = length xs; rows = xs ++ replicate (64 - length xs) noRow }) tooMany)
+    (le-leb (length xs) 64 h))
 
 -- more than there is room for
 pub up-many : (xs : List ImageRow) → 64 < length xs → tooMany ≡ rowsOf xs
 unfolding rowsOf
 up-many xs h =
-    sym (ap (λ (t : Bool). pick t (record { count = length xs; rows = xs ++ replicate (64 - length xs) noRow }) tooMany) (lt-leb (length xs) 64 h))
+    sym (ap (λ (t : Bool). pick t (record { count = length xs; rows = xs ++ replicate (64 - length xs) noRow }) tooMany)
+    (lt-leb (length xs) 64 h))

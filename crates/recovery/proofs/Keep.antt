@@ -52,7 +52,8 @@ same-none : (gs : List Segment) → length gs < 64 → set (entriesOf gs) (lengt
 same-none gs h =
     let n : 64 - length gs ≡ suc (63 - length gs) = omega arith in
     ap (λ (k : ℕ). set (gs ++ replicate k noSegment) (length gs) noSegment) n
-    ∙ set-at gs noSegment (replicate (63 - length gs) noSegment) noSegment (length gs) refl ∙ ap (λ (k : ℕ). gs ++ replicate k noSegment) (sym n)
+    ∙ set-at gs noSegment (replicate (63 - length gs) noSegment) noSegment (length gs) refl ∙ ap (λ (k : ℕ). gs ++ replicate k noSegment)
+    (sym n)
 
 -- what the loop keeps
 pub record AtKeep (s e : ℕ) (segs kept : List Segment) (n i : ℕ) : Type 0 where
@@ -72,7 +73,8 @@ keep-turn s e segs kept n i live x m long h at is is-x is-m =
     let g : Segment = getD segs i noSegment in
     let ks : List Segment = keptOf s e (take i segs) in
     let room : length ks < 64 = omega (arith, at .count, at .low) in
-    let more : take (i + 1) segs ≡ take i segs ++ (g ∷ []) = ap (λ (k : ℕ). take k segs) (add-one i) ∙ take-suc segs i noSegment (omega arith) in
+    let more : take (i + 1) segs ≡ take i segs ++ (g ∷ []) = ap (λ (k : ℕ). take k segs) (add-one i) ∙ take-suc segs i noSegment
+    (omega arith) in
     let all : keptOf s e (take (i + 1) segs) ≡ pick live (ks ++ (g ∷ [])) ks =
     ap (keptOf s e) more ∙ kept-snoc s e (take i segs) g ∙ ap (λ (b : Bool). pick b (ks ++ (g ∷ [])) ks) (sym is) in
     let put : set kept n x ≡ set (entriesOf ks) (length ks) (pick live g noSegment) =
@@ -106,7 +108,8 @@ pub keep-end : (s e : ℕ) (segs kept : List Segment) (n i count : ℕ) → i �
 keep-end s e segs kept n i count q at =
     let same = ap (λ (k : ℕ). keptOf s e (take k segs)) q in
     let many : n ≡ length (keptOf s e (take count segs)) = at .count ∙ ap length same in
-    let all : kept ≡ entriesOf (keptOf s e (take count segs)) = at .entries ∙ ap entriesOf same in λ j. record { count = many j; segs = all j }
+    let all : kept ≡ entriesOf (keptOf s e (take count segs)) = at .entries ∙ ap entriesOf same in
+    λ j. record { count = many j; segs = all j }
 
 -- ---- the last kept segment
 
@@ -131,7 +134,8 @@ slot-room slot c h g =
 
 -- ---- closing, on plain values: the kept segments gs stand in their entries, x is written over the last one
 
-module _ (k c m s e n : ℕ) (found : Scanned) (gs : List Segment) (kept : Kept) (is : kept ≡ record { count = length gs; segs = entriesOf gs }) (pre : ClosePre c n (found .scan .head) gs) where
+module _ (k c m s e n : ℕ) (found : Scanned) (gs : List Segment) (kept : Kept)
+    (is : kept ≡ record { count = length gs; segs = entriesOf gs }) (pre : ClosePre c n (found .scan .head) gs) where
   abbrev last-entry : Segment
   last-entry = getD (kept .segs) (kept .count - 1) noSegment
 
@@ -167,7 +171,8 @@ module _ (k c m s e n : ℕ) (found : Scanned) (gs : List Segment) (kept : Kept)
       let h : ℕ = found .scan .head in
       let y : Segment = closedAt (headOf gs) e h in
       let same : x ≡ y = is-x ∙ ap (λ (z : Segment). closedAt z e h) last-is in
-      let many : kept .count - 1 + 1 ≡ length (frontOf gs ++ (y ∷ [])) = ap (λ (q : Kept). q .count - 1 + 1) is ∙ count-last gs y (pre .some) in
+      let many : kept .count - 1 + 1 ≡ length (frontOf gs ++ (y ∷ [])) = ap (λ (q : Kept). q .count - 1 + 1) is ∙ count-last gs y
+      (pre .some) in
       let put : set (kept .segs) (kept .count - 1) x ≡ entriesOf (frontOf gs ++ (y ∷ [])) =
       ap (λ (q : Kept). set (q .segs) (q .count - 1) x) is ∙ set-last gs x (pre .some)
       ∙ ap (λ (z : Segment). entriesOf (frontOf gs ++ (z ∷ []))) same in

@@ -13,7 +13,22 @@ use Rattle.lists.specs.Choice.{pick, _⇒_, first}
 use Rattle.lists.specs.Splice.{part, splice, slotOf}
 use Rattle.lists.proofs.Splice.{splice-length, splice-before, splice-behind, splice-slot}
 use Rattle.seglog.specs.declared.Segment.{Segment}
-use Rattle.seglog.specs.Log.{View, emptyOf, logOf, headOf, frontOf, sizesOf, shapedOf, fitsOf, fittingOf, plainOf, viewOf, chainOf, apartOf, endsOf}
+use Rattle.seglog.specs.Log.{
+  View,
+  emptyOf,
+  logOf,
+  headOf,
+  frontOf,
+  sizesOf,
+  shapedOf,
+  fitsOf,
+  fittingOf,
+  plainOf,
+  viewOf,
+  chainOf,
+  apartOf,
+  endsOf,
+}
 use Rattle.seglog.specs.New.{roomyOf}
 use Rattle.seglog.proofs.Bools.{and-both, both-and}
 use Rattle.seglog.proofs.Fit.{sizes-are}
@@ -27,7 +42,19 @@ use Rattle.recovery_walk.specs.Scan.{scanOf}
 use Rattle.recovery_walk.proofs.RowIds.{Accepted, scan-accepted, scan-rows}
 use Rattle.recovery.specs.declared.Recovered.{Recovered}
 use Rattle.recovery.specs.ImageRows.{sortRows, rowsFit, lowestZero, oneApart}
-use Rattle.recovery.specs.Recovery.{Recovery, refused, recovered, keptOf, closedAt, paddedHead, outcomeOf, scanned, oneZero, recoveryOf, RecoveryDid}
+use Rattle.recovery.specs.Recovery.{
+  Recovery,
+  refused,
+  recovered,
+  keptOf,
+  closedAt,
+  paddedHead,
+  outcomeOf,
+  scanned,
+  oneZero,
+  recoveryOf,
+  RecoveryDid,
+}
 use Rattle.recovery.specs.Kept.{closedView}
 use Rattle.recovery.proofs.Order.{sort-inside, sort-apart}
 use Rattle.recovery.proofs.Shaped.{images-slots, slots-apart, kept-apart, closed-shaped}
@@ -72,7 +99,8 @@ module _ (k c m : ℕ) (area : List ℕ) (rows : List ImageRow) (s e room : ℕ)
       → (Passed → (s ≡ 0 → ⊥) → scanned k c m area (sortRows rows) s e room ≡ recovered a area′ words → P) → P
   unfolding recoveryOf
   passed {P} a area′ words q empty full =
-      go (roomyOf k c m (length area)) (oneZero s e) (ltb e s) (rowsFit k c rows) (lowestZero (sortRows rows)) (oneApart (sortRows rows)) (eqb s 0)
+      go (roomyOf k c m (length area)) (oneZero s e) (ltb e s) (rowsFit k c rows) (lowestZero (sortRows rows)) (oneApart (sortRows rows))
+      (eqb s 0)
       refl refl refl refl refl refl q
     where
       go : (x o t f l p z : Bool) → roomyOf k c m (length area) ≡ x → ltb e s ≡ t → rowsFit k c rows ≡ f → lowestZero (sortRows rows) ≡ l
@@ -139,13 +167,15 @@ module _ (k c m : ℕ) (area : List ℕ) (rows : List ImageRow) (s e room : ℕ)
     scan-fits =
         let shaped : shapedOf a ≡ true =
         ap shapedOf (w .view)
-        ∙ closed-shaped k c m s e (ids .i) (w .d .head) (keptOf s e (w .gs)) (sizes .sizes) (ids .some) (p .order) (keeps .whole) (keeps .head) own in
+        ∙ closed-shaped k c m s e (ids .i) (w .d .head) (keptOf s e (w .gs)) (sizes .sizes) (ids .some) (p .order) (keeps .whole)
+        (keeps .head) own in
         let long : length area′ ≡ a .k * a .c =
         ap length (w .bytes) ∙ splice-length _ _ area ∙ sizes .all ∙ sym (ap (λ (v : View). v .k * v .c) (w .view)) in
         both-and (shapedOf a) (eqb (length area′) (a .k * a .c)) shaped (eq-eqb (length area′) (a .k * a .c) long)
 
   -- EVERY ACCEPTED LOG IS WELL SHAPED, and the area has K x C bytes
-  pub recovered-fits : (a : View) (area′ words : List ℕ) → recoveryOf k c m area rows s e room ≡ recovered a area′ words → fitsOf a area′ ≡ true
+  pub recovered-fits : (a : View) (area′ words : List ℕ) → recoveryOf k c m area rows s e room ≡ recovered a area′ words → fitsOf a area′
+      ≡ true
   unfolding fitsOf shapedOf chainOf apartOf endsOf
   recovered-fits a area′ words q =
       passed a area′ words q
@@ -154,7 +184,8 @@ module _ (k c m : ℕ) (area : List ℕ) (rows : List ImageRow) (s e room : ℕ)
       let view : emptyOf k c m ≡ a = cc in
       let bytes : area ≡ area′ = cc in
       subst (λ (v : View). fitsOf v area′ ≡ true) view
-      (subst (λ (l : List ℕ). fitsOf (emptyOf k c m) l ≡ true) bytes (simp (sizes .sizes, le-leb 0 k (omega arith), eq-eqb (length area) (k * c) (sizes .all)))))
+      (subst (λ (l : List ℕ). fitsOf (emptyOf k c m) l ≡ true) bytes
+      (simp (sizes .sizes, le-leb 0 k (omega arith), eq-eqb (length area) (k * c) (sizes .all)))))
       (λ p some w. scan-fits p some a area′ words (left a area′ words w))
 
   -- so the log in its 64 entries is not refused by 2
@@ -232,5 +263,6 @@ module _ (k c m : ℕ) (area : List ℕ) (rows : List ImageRow) (s e room : ℕ)
       → (a ≡ emptyOf k c m) × (area′ ≡ area) × (words ≡ [])
   recovered-empty a area′ words none q =
       passed a area′ words q
-      (λ p z w. let view : emptyOf k c m ≡ a = cc in let bytes : area ≡ area′ = cc in let nil : [] ≡ words = cc in (sym view, sym bytes, sym nil))
+      (λ p z w. let view : emptyOf k c m ≡ a = cc in let bytes : area ≡ area′ = cc in let nil : [] ≡ words = cc in
+      (sym view, sym bytes, sym nil))
       (λ p n w. absurd (n none))

@@ -24,7 +24,8 @@ listed-read xs h =
     ap listedOf (sym (up-all xs h))
     ∙ ap (λ (k : ℕ). take (length xs) (take (length xs) xs ++ replicate (64 - length xs) noRow) ++ replicate k noRow) none
     ∙ append-nil (take (length xs) (take (length xs) xs ++ replicate (64 - length xs) noRow))
-    ∙ take-at (take (length xs) xs) (replicate (64 - length xs) noRow) (length xs) (length-take-le (length xs) xs (omega arith)) ∙ take-length xs
+    ∙ take-at (take (length xs) xs) (replicate (64 - length xs) noRow) (length xs) (length-take-le (length xs) xs (omega arith))
+    ∙ take-length xs
 
 -- too many are too many in both
 many-read : (xs : List ImageRow) → 64 < length xs → 64 < length (listedOf (rowsOf xs))

@@ -54,7 +54,8 @@ slots-fresh x [] [] h = refl
 slots-fresh x [] (g ∷ gs) h = absurd h
 slots-fresh x (r ∷ rs) [] h = absurd h
 slots-fresh x (r ∷ rs) (g ∷ gs) h =
-    ap (λ (y : ℕ). pick (eqb x y) false (freshIn x gs)) (h .0) ∙ ap (λ (b : Bool). pick (eqb x (r .slot)) false b) (slots-fresh x rs gs (h .1))
+    ap (λ (y : ℕ). pick (eqb x y) false (freshIn x gs)) (h .0) ∙ ap (λ (b : Bool). pick (eqb x (r .slot)) false b)
+    (slots-fresh x rs gs (h .1))
 
 pub slots-apart : (rs : List ImageRow) (gs : List Segment) → SlotsOf rs gs → apartOf gs ≡ rowsApart rs
 unfolding apartOf rowsApart
@@ -116,7 +117,8 @@ runs-chain k n i b (g ∷ gs) hi hb h =
     next : (gs : List Segment) → Runs k n (i + 1) (g .max + 1) gs → nextOf g gs ≡ true
     next [] r = refl
     next (x ∷ xs) r =
-        both-and (eqb (x .id) (g .id + 1)) (eqb (x .min) (g .max + 1)) (eq-eqb _ _ (r .0 ∙ ap (λ (y : ℕ). y + 1) (sym (h .0)))) (eq-eqb _ _ (r .4))
+        both-and (eqb (x .id) (g .id + 1)) (eqb (x .min) (g .max + 1)) (eq-eqb _ _ (r .0 ∙ ap (λ (y : ℕ). y + 1) (sym (h .0))))
+        (eq-eqb _ _ (r .4))
 
 -- the last of them closed at e
 runs-closed : (k n i b e x : ℕ) (hs : List Segment) (g : Segment) → 1 ≤ x → x ≤ n → g .min ≤ e → Runs k n i b (hs ++ (g ∷ []))
@@ -158,7 +160,8 @@ closed-shaped k c m s e i x gs sizes some-id order w x-good apart =
     let hs = w .cut .hs in
     let g = w .cut .g in
     let ys : List Segment = hs ++ (closedAt g e x ∷ []) in
-    let runs : Runs k c (w .j) (w .b) ys = runs-closed k c (w .j) (w .b) e x hs g (x-good .some) (x-good .fits) (w .cut .low) (w .cut .runs) in
+    let runs : Runs k c (w .j) (w .b) ys = runs-closed k c (w .j) (w .b) e x hs g (x-good .some) (x-good .fits) (w .cut .low)
+    (w .cut .runs) in
     let chain = runs-chain k c (w .j) (w .b) ys (omega (arith, w .from)) (w .some) runs in
     let own : apartOf ys ≡ true = last-apart hs g (closedAt g e x) refl (ap apartOf (sym (w .cut .is)) ∙ apart) in
     let few : length ys ≤ k = pigeons k ys own (chain-below k c ys chain) in

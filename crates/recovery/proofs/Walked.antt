@@ -219,7 +219,8 @@ module _ (area : List ℕ) (k n s e : ℕ) (all : length area ≡ k * n) (whole 
       let over : moreOf (openedOf c) (length (imageOf area n r)) ≡ false = ap (λ (x : ℕ). ltb 0 x) none in
       let same : Next (openedOf c) ≡ Next d = sym (records-end (imageOf area n r) s e (openedOf c) over) ∙ q in (cc)
 
-  quiet : (rs : List ImageRow) (c d : Scan) (gs : List Segment) → rowsInside k n rs ≡ true → images area n s e rs true c ≡ walked d gs → Quiet c d gs
+  quiet : (rs : List ImageRow) (c d : Scan) (gs : List Segment) → rowsInside k n rs ≡ true → images area n s e rs true c ≡ walked d gs
+      → Quiet c d gs
   unfolding images rowsInside gapOf
   quiet [] c d gs h q =
       let same : c ≡ d = cc in
@@ -304,7 +305,8 @@ module _ (area : List ℕ) (k n s e : ℕ) (all : length area ≡ k * n) (whole 
             start = λ f t. both-ways (c .start) (ap (λ (x : Scan). x .start) same ∙ sym (w .start) ∙ t) f;
             end = λ f t. both-ways (c .end) (ap (λ (x : Scan). x .end) same ∙ sym (w .end) ∙ t) f;
             head = λ was t.
-                subst (HeadGood n) (ap (λ (x : Scan). x .head) same ∙ sym (w .head)) (was (ap (λ (x : Scan). x .end) same ∙ sym (w .end) ∙ t));
+                subst (HeadGood n) (ap (λ (x : Scan). x .head) same ∙ sym (w .head))
+                (was (ap (λ (x : Scan). x .end) same ∙ sym (w .end) ∙ t));
           }
 
       filled-first : (r : ImageRow) (c d : Scan) (gs : List Segment) (m : Scan) (later : List Segment) → r .slot < k → r .size ≤ n

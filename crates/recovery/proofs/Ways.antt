@@ -178,8 +178,10 @@ pub record Keeps (k c s e i x : ℕ) (gs : List Segment) : Type 0 where
   pub whole : Whole s e k c i (keptOf s e gs)
   pub head : HeadGood c x
 
-pub scan-keeps : (area : List ℕ) (k c s e i room : ℕ) (rs : List ImageRow) (d : Scan) (gs : List Segment) → length area ≡ k * c → c % 4096 ≡ 0 → s ≤ e
-    → (s ≡ 0 → ⊥) → rowsInside k c rs ≡ true → IdsFrom i rs → Accepted room (images area c s e rs false startOf) d gs → Keeps k c s e i (d .head) gs
+pub scan-keeps : (area : List ℕ) (k c s e i room : ℕ) (rs : List ImageRow) (d : Scan) (gs : List Segment) → length area ≡ k * c
+    → c % 4096 ≡ 0 → s ≤ e
+    → (s ≡ 0 → ⊥) → rowsInside k c rs ≡ true → IdsFrom i rs → Accepted room (images area c s e rs false startOf) d gs → Keeps k c s e i
+    (d .head) gs
 scan-keeps area k c s e i room rs d gs all pages order some inside ids a =
     let t = images-tell area k c s e all pages order rs i startOf d gs inside ids (a .walk) in
     let start = t .start refl (a .start) in
@@ -257,7 +259,8 @@ did-refused o area index n r p q =
     }
 
 -- the range (0, 0): the empty log, and nothing changed
-pub did-empty : (o : Recovery) (k c m : ℕ) (area index : List ℕ) (r : Recovered) → r ≡ record { refusal = 0; rows = 0; log = logOf (emptyOf k c m) }
+pub did-empty : (o : Recovery) (k c m : ℕ) (area index : List ℕ) (r : Recovered) → r
+    ≡ record { refusal = 0; rows = 0; log = logOf (emptyOf k c m) }
     → o ≡ recovered (emptyOf k c m) area [] → RecoveryDid o area index r area index
 did-empty o k c m area index r p q =
     record {
@@ -276,7 +279,8 @@ walk-asks k c m area images-in s e pre full =
     (sym (length-take-le (images-in .count) (images-in .rows) (omega (arith, pre .few)))) (pre .inside)
 
 -- the scan of an array's rows
-module _ (k c m : ℕ) (area : List ℕ) (images-in : Rows) (s e : ℕ) (index : List ℕ) (pre : ScanPre k c m area images-in s e) (full : length (images-in .rows) ≡ 64)
+module _ (k c m : ℕ) (area : List ℕ) (images-in : Rows) (s e : ℕ) (index : List ℕ) (pre : ScanPre k c m area images-in s e)
+    (full : length (images-in .rows) ≡ 64)
     (index′ : List ℕ) (r : Scanned) where
   abbrev n : ℕ
   n = images-in .count
@@ -344,7 +348,8 @@ module _ (k c m : ℕ) (area : List ℕ) (images-in : Rows) (s e : ℕ) (index :
       close-pre =
           let room = roomy-is k c m (length area) (pre .roomy) in
           let ids = ids-are rs (pre .low) (pre .apart) in
-          let keeps = scan-keeps area k c s e (ids .i) (length index) rs (r .scan) (w .gs) (room .all) (room .obey .whole-pages) (pre .order) (pre .some)
+          let keeps = scan-keeps area k c s e (ids .i) (length index) rs (r .scan) (w .gs) (room .all) (room .obey .whole-pages)
+          (pre .order) (pre .some)
           (pre .inside) (ids .from) went in
           let cut = keeps .whole .cut in
           let last = runs-last k c (keeps .whole .j) (keeps .whole .b) (cut .hs) (cut .g) (cut .runs) in
@@ -366,7 +371,8 @@ module _ (k c m : ℕ) (area : List ℕ) (images-in : Rows) (s e : ℕ) (index :
       did-close x area′ closed =
           let words : List ℕ = rowsAll area c s e rs penOf in
           let done : scanned k c m area rs s e (length index)
-          ≡ recovered (closedView k c m s e (r .scan .head) (keptOf s e (w .gs))) (paddedHead c area (headOf (keptOf s e (w .gs))) (r .scan .head))
+          ≡ recovered (closedView k c m s e (r .scan .head) (keptOf s e (w .gs)))
+          (paddedHead c area (headOf (keptOf s e (w .gs))) (r .scan .head))
           words =
           ap (outcomeOf k c m area s e rs) (w .out) in
           let live : r .scan .live ≡ length words / 4 =

@@ -26,12 +26,17 @@ returns c = simp (le-leb _ _ (c .if1 .taken))
 
 returns-2 : tie.Need-returns-2
 unfolding outsideOf
-returns-2 c = simp (lt-leb _ _ (c .before .before .if1 .left), above-c _ _ (c .before .before .before .before .args .length) (c .if2 .taken))
+returns-2 c = simp (
+  lt-leb _ _ (c .before .before .if1 .left),
+  above-c _ _ (c .before .before .before .before .args .length)
+      (c .if2 .taken),
+)
 
 returns-3 : tie.Need-returns-3
 unfolding outsideOf
 returns-3 c =
-    simp (lt-leb _ _ (c .before .before .before .if1 .left)) (sum-above _ _ (c .before .before .before .before .before .args .length) (c .before .if2 .left))
+    simp (lt-leb _ _ (c .before .before .before .if1 .left))
+    (sum-above _ _ (c .before .before .before .before .before .args .length) (c .before .if2 .left))
 
 pub outside-spec : {M : Type 1} → statement M
 outside-spec = tie.close (tie.spec returns returns-2 returns-3)

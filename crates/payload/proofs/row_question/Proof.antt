@@ -17,10 +17,12 @@ outside-requires : tie.Need-outside-requires
 outside-requires c κs = search needs
 
 returns-2 : tie.Need-returns-2
-returns-2 c = sym (row-outside _ _ _ _ _ (sym (c .before .before .before .fits2 .ensures) ∙ not-false _ (c .before .before .if1 .left)) (sym (c .before .outside .ensures) ∙ c .if2 .taken))
+returns-2 c = sym (row-outside _ _ _ _ _ (sym (c .before .before .before .fits2 .ensures) ∙ not-false _ (c .before .before .if1 .left))
+    (sym (c .before .outside .ensures) ∙ c .if2 .taken))
 
 returns-3 : tie.Need-returns-3
-returns-3 c = sym (row-is-good _ _ _ _ _ (sym (c .before .before .before .fits2 .ensures) ∙ not-false _ (c .before .before .if1 .left)) (sym (c .before .outside .ensures) ∙ c .if2 .left))
+returns-3 c = sym (row-is-good _ _ _ _ _ (sym (c .before .before .before .fits2 .ensures) ∙ not-false _ (c .before .before .if1 .left))
+    (sym (c .before .outside .ensures) ∙ c .if2 .left))
 
 pub row-question-spec : {M : Type 1} → statement M
 row-question-spec = tie.close (tie.spec fits-requires returns outside-requires returns-2 returns-3)

@@ -18,8 +18,59 @@ use prog.Wp.{Heap, WpFn, Tables}
 use ghost.Atoms.{Atoms, sem}
 use contract.Monad.{Fun, fact}
 use contract.Running.{givenOf, tables, tablesOf}
-use types.Kit.{Given, Item, ‵, raw, some, later, _⊛_, ⋆, _$_, _∵_, !, qed, by, move, keep, use1, use2, split, join, pick, fsplit, fjoin, feqL, suffices, frame, await, done}
-use types.Run.{look, init, forget, stop, hop, fld, from, load, addr, and-then, no-more, assigns, land, returns, enter, alloc1, alloc0, params1, pass1, pass0, free1, free0}
+use types.Kit.{
+  Given,
+  Item,
+  ‵,
+  raw,
+  some,
+  later,
+  _⊛_,
+  ⋆,
+  _$_,
+  _∵_,
+  !,
+  qed,
+  by,
+  move,
+  keep,
+  use1,
+  use2,
+  split,
+  join,
+  pick,
+  fsplit,
+  fjoin,
+  feqL,
+  suffices,
+  frame,
+  await,
+  done,
+}
+use types.Run.{
+  look,
+  init,
+  forget,
+  stop,
+  hop,
+  fld,
+  from,
+  load,
+  addr,
+  and-then,
+  no-more,
+  assigns,
+  land,
+  returns,
+  enter,
+  alloc1,
+  alloc0,
+  params1,
+  pass1,
+  pass0,
+  free1,
+  free0,
+}
 use types.Part.{agg, whole, sub, look-in}
 use sound.WpLaws.{fmOf, WpFn-mono}
 use denote.RattleType.{RattleType, owns}
@@ -36,7 +87,20 @@ use denote.Triple.Statement.{Contract, Triple}
 use denote.Triple.Call.{calls-at}
 use denote.Triple.Clauses.{ensured, lasts, Lasts}
 use denote.Triple.Table.{entered, cited}
-use denote.Triple.Walked.{says, Stays, gave-slice, stay-dropped, walkOf, goes-gave-slice, goes-dropped, AllGo, Walks, ends-at, walked, walk-meets}
+use denote.Triple.Walked.{
+  says,
+  Stays,
+  gave-slice,
+  stay-dropped,
+  walkOf,
+  goes-gave-slice,
+  goes-dropped,
+  AllGo,
+  Walks,
+  ends-at,
+  walked,
+  walk-meets,
+}
 use denote.Exit.{yes}
 use denote.Signature.{Slot, plain, shrSliceOf}
 use Rattle.recovery_walk.specs.declared.ImageRow.{ImageRow}
@@ -106,7 +170,8 @@ module _ {M : Type 1} (𝓤 : URA M) (H : Heap 𝓤) (A : Atoms 𝓤) (mem : Mem
   Work = tripleOf 𝓤 H A work.signature (work.spec 𝓤 H A mem run)
 
 module _ {M : Type 1} (𝓤 : URA M) (H : Heap 𝓤) (A : Atoms 𝓤) (W : Given 𝓤 H A) (mem : Memory → SProp 𝓤) (run : Routine → Fun 𝓤)
-    (κ₀ κ₁ κ₂ : Lft) (q₀ q₁ q₂ : Share) (k c m : ℕ) (area : RefT (List ℕ)) (x : RefT (List ImageRow)) (s e : ℕ) (index : RefT (List ℕ)) where
+    (κ₀ κ₁ κ₂ : Lft) (q₀ q₁ q₂ : Share) (k c m : ℕ) (area : RefT (List ℕ)) (x : RefT (List ImageRow)) (s e : ℕ)
+    (index : RefT (List ℕ)) where
   abbrev Arg : Type 0
   Arg = ℕ × (ℕ × (ℕ × (RefT (List ℕ) × (RefT (List ImageRow) × (ℕ × (ℕ × (RefT (List ℕ) × Unit {0})))))))
 
@@ -160,7 +225,8 @@ module _ {M : Type 1} (𝓤 : URA M) (H : Heap 𝓤) (A : Atoms 𝓤) (W : Given
 
   asks-read : ent 𝓤 (⋆ 𝓤 H A (‵ (flft κ₁ q₁) ∷ ‵ own-x ∷ [])) (Read 𝓤 H A mem run .pre to-read)
   asks-read =
-      qed W (‵ (flft κ₁ q₁) ∷ ‵ own-x ∷ []) ∵ nothing ! $ move ! (2 ∷ 0 ∷ []) $ fjoin ! $ nothing ! $ move ! (2 ∷ 0 ∷ []) $ join ! $ join ! $ frame ! $ done !
+      qed W (‵ (flft κ₁ q₁) ∷ ‵ own-x ∷ []) ∵ nothing ! $ move ! (2 ∷ 0 ∷ []) $ fjoin ! $ nothing ! $ move ! (2 ∷ 0 ∷ []) $ join ! $
+      join ! $ frame ! $ done !
 
   says-read : (r : Rows)
       → ent 𝓤 (ensured 𝓤 H A read.ended (read.clauses 𝓤 H A mem run) (κ₁, tt) (x, tt) tt r) (fact 𝓤 (r ≡ rowsOf (x .now)))
@@ -196,7 +262,8 @@ module _ {M : Type 1} (𝓤 : URA M) (H : Heap 𝓤) (A : Atoms 𝓤) (W : Given
   abbrev outcome : List ImageRow → Recovery
   outcome rs = recoveryOf k c m (area .now) rs s e (length (index .now))
 
-  to-rows : (r : Rows) (v : Recovered) (zs ws : List ℕ) → r ≡ rowsOf (x .now) → Says (outcome (listedOf r)) v zs ws → Says (outcome (x .now)) v zs ws
+  to-rows : (r : Rows) (v : Recovered) (zs ws : List ℕ) → r ≡ rowsOf (x .now) → Says (outcome (listedOf r)) v zs ws → Says
+      (outcome (x .now)) v zs ws
   to-rows r v zs ws q h =
       subst (λ (o : Recovery). Says o v zs ws)
       (ap (λ (z : Rows). outcome (listedOf z)) q ∙ read-same k c m (area .now) (x .now) s e (length (index .now))) h
@@ -218,7 +285,8 @@ module _ {M : Type 1} (𝓤 : URA M) (H : Heap 𝓤) (A : Atoms 𝓤) (W : Given
       move ! (2 ∷ 0 ∷ []) $ fjoin ! $ nothing ! $ fjoin ! $ nothing ! $ fjoin ! $ nothing ! $ fjoin ! $ move ! (2 ∷ 0 ∷ []) $ fjoin ! $
       nothing ! $ fjoin ! $ nothing ! $ fjoin ! $ nothing ! $ fjoin ! $ frame ! $ done !
 
-  module _ (𝓣 : Tables 𝓤 H) (known-read : Triple 𝓤 (𝓣 .C #read) (Read 𝓤 H A mem run)) (known-work : Triple 𝓤 (𝓣 .C #work) (Work 𝓤 H A mem run)) where
+  module _ (𝓣 : Tables 𝓤 H) (known-read : Triple 𝓤 (𝓣 .C #read) (Read 𝓤 H A mem run))
+      (known-work : Triple 𝓤 (𝓣 .C #work) (Work 𝓤 H A mem run)) where
     walk : k < 2 ^ 64 → c < 2 ^ 64 → m < 2 ^ 64 → Room u8 (length (area .now)) → Room R (length (x .now)) → s < 2 ^ 64 → e < 2 ^ 64
         → Room u64 (length (index .now))
         → ent 𝓤 (onEntry 𝓤 H A f.signature (κ₀, (κ₁, (κ₂, tt))) (q₀, (q₁, (q₂, tt))) a vals)
@@ -227,41 +295,54 @@ module _ {M : Type 1} (𝓤 : URA M) (H : Heap 𝓤) (A : Atoms 𝓤) (W : Given
     walk k-fits c-fits m-fits area-room rows-room s-fits e-fits index-room =
         qed W
         ((‵ (flft κ₀ q₀) ⊛ (‵ (flft κ₁ q₁) ⊛ tok-index))
-        ∷ ‵ (owns (u64 ∷ u64 ∷ u64 ∷ MutSlice (named 0) κ₀ u8 ∷ ShrSlice (named 1) κ₁ R ∷ u64 ∷ u64 ∷ MutSlice (named 2) κ₂ u64 ∷ []) a vals)
+        ∷ ‵ (owns (u64 ∷ u64 ∷ u64 ∷ MutSlice (named 0) κ₀ u8 ∷ ShrSlice (named 1) κ₁ R ∷ u64 ∷ u64 ∷ MutSlice (named 2) κ₂ u64
+        ∷ []) a vals)
         ∷ []) ∵
         enter ! (𝓣 .C) (𝓣 .Λ) code.function
         (vint w64 k ∷ vint w64 c ∷ vint w64 m ∷ area-val ∷ rows-val ∷ vint w64 s ∷ vint w64 e ∷ index-val ∷ []) _ $
-        alloc1 ! (λ l₀. alloc1 ! (λ l₁. alloc1 ! (λ l₂. alloc1 ! (λ l₃. alloc1 ! (λ l₄. alloc1 ! (λ l₅. alloc1 ! (λ l₆. alloc1 ! (λ l₇. alloc1 ! (λ l₈. alloc1 ! (λ l₉. alloc1 ! (λ l₁₀. alloc1 ! (λ l₁₁. alloc1 ! (λ l₁₂. alloc1 ! (λ l₁₃. alloc0 ! $ params1 ! $
+        alloc1 ! (λ l₀. alloc1 ! (λ l₁. alloc1 ! (λ l₂. alloc1 ! (λ l₃. alloc1 ! (λ l₄. alloc1 ! (λ l₅. alloc1 ! (λ l₆. alloc1 !
+        (λ l₇. alloc1 ! (λ l₈. alloc1 ! (λ l₉. alloc1 !
+        (λ l₁₀. alloc1 ! (λ l₁₁. alloc1 ! (λ l₁₂. alloc1 ! (λ l₁₃. alloc0 ! $ params1 ! $
         pass1 ! (init ! 24 refl (tt, record { fits = k-fits })) $ pass1 ! (init ! 22 refl (tt, record { fits = c-fits })) $
-        pass1 ! (init ! 20 refl (tt, record { fits = m-fits })) $ pass1 ! (init ! 18 refl (tt, (tt, (record { fits = area-room .0 }, tt)))) $
-        pass1 ! (init ! 16 refl (tt, (tt, (record { fits = rows-room .0 }, tt)))) $ pass1 ! (init ! 14 refl (tt, record { fits = s-fits })) $
-        pass1 ! (init ! 12 refl (tt, record { fits = e-fits })) $ pass1 ! (init ! 10 refl (tt, (tt, (record { fits = index-room .0 }, tt)))) $ pass0 ! $
+        pass1 ! (init ! 20 refl (tt, record { fits = m-fits })) $ pass1 !
+        (init ! 18 refl (tt, (tt, (record { fits = area-room .0 }, tt)))) $
+        pass1 ! (init ! 16 refl (tt, (tt, (record { fits = rows-room .0 }, tt)))) $ pass1 !
+        (init ! 14 refl (tt, record { fits = s-fits })) $
+        pass1 ! (init ! 12 refl (tt, record { fits = e-fits })) $ pass1 !
+        (init ! 10 refl (tt, (tt, (record { fits = index-room .0 }, tt)))) $ pass0 ! $
         -- [_13; …; _0; …; the tokens; what the parameters own]: these are taken apart
-        move ! (29 ∷ []) $ fsplit ! $ move ! (1 ∷ []) $ fsplit ! $ move ! (1 ∷ []) $ fsplit ! $ move ! (1 ∷ []) $ fsplit ! $ move ! (1 ∷ []) $ fsplit ! $
+        move ! (29 ∷ []) $ fsplit ! $ move ! (1 ∷ []) $ fsplit ! $ move ! (1 ∷ []) $ fsplit ! $ move ! (1 ∷ []) $ fsplit ! $ move !
+        (1 ∷ []) $ fsplit ! $
         -- [rows; the later ones; area; m; c; k; _13; …; _0; …; the tokens]
-        move ! (34 ∷ []) $ split ! $ move ! (1 ∷ []) $ split ! $ move ! (0 ∷ 3 ∷ []) $ use2 W (raw (Read 𝓤 H A mem run .pre to-read)) asks-read $
+        move ! (34 ∷ []) $ split ! $ move ! (1 ∷ []) $ split ! $ move ! (0 ∷ 3 ∷ []) $ use2 W
+        (raw (Read 𝓤 H A mem run .pre to-read)) asks-read $
         -- [what `read_rows` asks; the index's token; the area's token; the later ones; area; m; c; k; _13; …; _0; …]
         calls-at ! (fmOf 𝓤 H (W .laws) 𝓣) (Read 𝓤 H A mem run) known-read to-read
         (and-then ! (load ! (from ! (stop !)) (look ! 24 refl)) (no-more !)) (λ u.
         use1 W
-        (later (some (λ (r : Rows). (tok-read ⊛ ‵ (Rs .own r (u ∷ []))) ⊛ raw (ensured 𝓤 H A read.ended (read.clauses 𝓤 H A mem run) (κ₁, tt) (x, tt) tt r))))
+        (later (some (λ (r : Rows). (tok-read ⊛ ‵ (Rs .own r (u ∷ []))) ⊛ raw
+        (ensured 𝓤 H A read.ended (read.clauses 𝓤 H A mem run) (κ₁, tt) (x, tt) tt r))))
         (id⊢ 𝓤 _) $ await ! tt $ pick ! (λ r.
-        split ! $ move ! (1 ∷ []) $ use1 W (raw (fact 𝓤 (r ≡ rowsOf (x .now)))) (says-read r) $ heard ! (r ≡ rowsOf (x .now)) (λ q. split ! $ move ! (1 ∷ []) $
+        split ! $ move ! (1 ∷ []) $ use1 W (raw (fact 𝓤 (r ≡ rowsOf (x .now)))) (says-read r) $ heard ! (r ≡ rowsOf (x .now))
+        (λ q. split ! $ move ! (1 ∷ []) $
         peeks ! Rs (Is Rs) (shows 𝓤 H A Rs) r (u ∷ []) (λ is.
         -- [what the rows own; the slice's token; the index's token; the area's token; the later ones; area; m; c; k; _13; …; _0; …]
         land ! (from ! (stop !)) (init ! 17 refl (LL.lawful T.the-type T′.the-laws 𝓤 H A W .typed r _ is .0)) $
-        assigns ! (addr ! (from ! (fld ! refl (hop ! (look-in ! 27 (sub ! 0 refl (whole !))) (stop !))))) (from ! (stop !)) (init ! 15 refl (tt, tt)) $
+        assigns ! (addr ! (from ! (fld ! refl (hop ! (look-in ! 27 (sub ! 0 refl (whole !))) (stop !))))) (from ! (stop !))
+        (init ! 15 refl (tt, tt)) $
         assigns !
         (agg ! (and-then ! (load ! (from ! (stop !)) (look ! 15 refl))
         (and-then ! (load ! (from ! (fld ! refl (stop !))) (look-in ! 27 (sub ! 1 refl (whole !)))) (no-more !))))
         (from ! (stop !)) (init ! 13 refl (tt, (tt, (record { fits = area-room .0 }, tt)))) $
-        assigns ! (addr ! (from ! (fld ! refl (hop ! (look-in ! 19 (sub ! 0 refl (whole !))) (stop !))))) (from ! (stop !)) (init ! 11 refl (tt, tt)) $
+        assigns ! (addr ! (from ! (fld ! refl (hop ! (look-in ! 19 (sub ! 0 refl (whole !))) (stop !))))) (from ! (stop !))
+        (init ! 11 refl (tt, tt)) $
         assigns !
         (agg ! (and-then ! (load ! (from ! (stop !)) (look ! 11 refl))
         (and-then ! (load ! (from ! (fld ! refl (stop !))) (look-in ! 19 (sub ! 1 refl (whole !)))) (no-more !))))
         (from ! (stop !)) (init ! 9 refl (tt, (tt, (record { fits = index-room .0 }, tt)))) $
         -- what `recover_rows` is passed is put together
-        move ! (0 ∷ 4 ∷ []) $ fjoin ! $ move ! (4 ∷ 0 ∷ []) $ fjoin ! $ move ! (4 ∷ 0 ∷ []) $ fjoin ! $ move ! (4 ∷ 0 ∷ []) $ fjoin ! $ move ! (4 ∷ 0 ∷ []) $ fjoin ! $
+        move ! (0 ∷ 4 ∷ []) $ fjoin ! $ move ! (4 ∷ 0 ∷ []) $ fjoin ! $ move ! (4 ∷ 0 ∷ []) $ fjoin ! $ move ! (4 ∷ 0 ∷ []) $ fjoin ! $
+        move ! (4 ∷ 0 ∷ []) $ fjoin ! $
         -- [what is passed; the slice's token; the index's token; the area's token; _13; …; _0; …]
         move ! (3 ∷ 2 ∷ []) $ join ! $ use2 W (raw (Work 𝓤 H A mem run .pre (to-work r u))) (asks-work r u) $
         -- [what `recover_rows` asks; the slice's token; _13; …; _0; …]
@@ -269,9 +350,11 @@ module _ {M : Type 1} (𝓤 : URA M) (H : Heap 𝓤) (A : Atoms 𝓤) (W : Given
         (and-then ! (load ! (from ! (stop !)) (look ! 26 refl)) (and-then ! (load ! (from ! (stop !)) (look ! 24 refl))
         (and-then ! (load ! (from ! (stop !)) (look ! 22 refl)) (and-then ! (load ! (from ! (stop !)) (look ! 6 refl))
         (and-then ! (load ! (from ! (stop !)) (look ! 10 refl)) (and-then ! (load ! (from ! (stop !)) (look ! 16 refl))
-        (and-then ! (load ! (from ! (stop !)) (look ! 14 refl)) (and-then ! (load ! (from ! (stop !)) (look ! 2 refl)) (no-more !))))))))) (λ u′.
+        (and-then ! (load ! (from ! (stop !)) (look ! 14 refl))
+        (and-then ! (load ! (from ! (stop !)) (look ! 2 refl)) (no-more !))))))))) (λ u′.
         use1 W
-        (later (some (λ (v : Recovered). (tok-work ⊛ ‵ (An .own v (u′ ∷ []))) ⊛ raw (ensured 𝓤 H A work.ended (work.clauses 𝓤 H A mem run) (κ₀, (κ₂, tt)) (passed r) tt v))))
+        (later (some (λ (v : Recovered). (tok-work ⊛ ‵ (An .own v (u′ ∷ []))) ⊛ raw
+        (ensured 𝓤 H A work.ended (work.clauses 𝓤 H A mem run) (κ₀, (κ₂, tt)) (passed r) tt v))))
         (id⊢ 𝓤 _) $ await ! tt $ pick ! (λ v.
         split ! $ move ! (1 ∷ []) $
         use1 W
@@ -279,22 +362,57 @@ module _ {M : Type 1} (𝓤 : URA M) (H : Heap 𝓤) (A : Atoms 𝓤) (W : Given
         ⊛ raw (fact 𝓤 (Says (outcome (listedOf r)) v (zs .1 .1 .1 .0) (zs .1 .1 .1 .1 .1 .1 .1 .0))))) (id⊢ 𝓤 _) $ pick ! (λ zs.
         split ! $ move ! (1 ∷ []) $ heard ! (Says (outcome (listedOf r)) v (zs .1 .1 .1 .0) (zs .1 .1 .1 .1 .1 .1 .1 .0)) (λ h.
         -- [what is left of the parameters; the answer with its tokens; the slice's token; _13; …; _0; …]
-        fsplit ! $ move ! (1 ∷ []) $ fsplit ! $ move ! (1 ∷ []) $ fsplit ! $ move ! (1 ∷ []) $ fsplit ! $ fsplit ! $ move ! (1 ∷ []) $ feqL ! (λ long-area.
-        move ! (1 ∷ []) $ fsplit ! $ move ! (1 ∷ []) $ fsplit ! $ move ! (1 ∷ []) $ fsplit ! $ move ! (1 ∷ []) $ fsplit ! $ fsplit ! $ move ! (1 ∷ []) $ feqL ! (λ long-index.
-        -- [the index's last list; true; e; s; rows; the area's last list; m; c; k; the answer with its tokens; the slice's token; _13; …; _0; …]
+        fsplit ! $ move ! (1 ∷ []) $ fsplit ! $ move ! (1 ∷ []) $ fsplit ! $ move ! (1 ∷ []) $ fsplit ! $ fsplit ! $ move ! (1 ∷ []) $
+        feqL ! (λ long-area.
+        move ! (1 ∷ []) $ fsplit ! $ move ! (1 ∷ []) $ fsplit ! $ move ! (1 ∷ []) $ fsplit ! $ move ! (1 ∷ []) $ fsplit ! $ fsplit ! $
+        move ! (1 ∷ []) $ feqL ! (λ long-index.
+        -- [the index's last list; true; e; s; rows; the area's last list; m; c; k; the answer with its tokens; the slice's token; _13; …;
+        -- _0; …]
         move ! (9 ∷ []) $ split ! $ move ! (1 ∷ []) $ peeks ! An (Is An) (shows 𝓤 H A An) v (u′ ∷ []) (λ is′.
-        -- [the answer; its tokens; the index's last list; true; e; s; rows; the area's last list; m; c; k; the slice's token; _13; …; _0; …]
+        -- [the answer; its tokens; the index's last list; true; e; s; rows; the area's last list; m; c; k; the slice's token; _13; …; _0;
+        -- …]
         land ! (from ! (stop !)) (init ! 38 refl (LL.lawful Q.the-type Q′.the-laws 𝓤 H A W .typed v _ is′ .0)) $
-        returns ! (look ! 38 refl) $ forget ! 12 refl $ forget ! 14 refl $ forget ! 16 refl $ forget ! 18 refl $ forget ! 20 refl $ forget ! 22 refl $ forget ! 24 refl $ forget ! 26 refl $ forget ! 28 refl $ forget ! 30 refl $ forget ! 32 refl $ forget ! 34 refl $ forget ! 36 refl $ forget ! 38 refl $
-        move ! (38 ∷ 39 ∷ []) $ free1 ! $ move ! (36 ∷ 37 ∷ []) $ free1 ! $ move ! (34 ∷ 35 ∷ []) $ free1 ! $ move ! (32 ∷ 33 ∷ []) $ free1 ! $ move ! (30 ∷ 31 ∷ []) $ free1 ! $ move ! (28 ∷ 29 ∷ []) $ free1 ! $ move ! (26 ∷ 27 ∷ []) $ free1 ! $ move ! (24 ∷ 25 ∷ []) $ free1 ! $ move ! (22 ∷ 23 ∷ []) $ free1 ! $ move ! (20 ∷ 21 ∷ []) $ free1 ! $ move ! (18 ∷ 19 ∷ []) $ free1 ! $ move ! (16 ∷ 17 ∷ []) $ free1 ! $ move ! (14 ∷ 15 ∷ []) $ free1 ! $ move ! (12 ∷ 13 ∷ []) $ free1 ! $ free0 ! $
+        returns ! (look ! 38 refl) $ forget ! 12 refl $ forget ! 14 refl $ forget ! 16 refl $ forget ! 18 refl $ forget ! 20 refl $
+        forget ! 22 refl $ forget ! 24 refl $ forget ! 26 refl $ forget ! 28 refl $ forget ! 30 refl $ forget ! 32 refl $
+        forget ! 34 refl $ forget ! 36 refl $ forget ! 38 refl $
+        move ! (38 ∷ 39 ∷ []) $ free1 ! $ move ! (36 ∷ 37 ∷ []) $ free1 ! $ move ! (34 ∷ 35 ∷ []) $ free1 ! $ move ! (32 ∷ 33 ∷ []) $
+        free1 ! $ move ! (30 ∷ 31 ∷ []) $ free1 ! $ move ! (28 ∷ 29 ∷ []) $ free1 ! $ move ! (26 ∷ 27 ∷ []) $ free1 ! $ move !
+        (24 ∷ 25 ∷ []) $ free1 ! $ move ! (22 ∷ 23 ∷ []) $ free1 ! $ move ! (20 ∷ 21 ∷ []) $ free1 ! $ move ! (18 ∷ 19 ∷ []) $
+        free1 ! $ move ! (16 ∷ 17 ∷ []) $ free1 ! $ move ! (14 ∷ 15 ∷ []) $ free1 ! $ move ! (12 ∷ 13 ∷ []) $ free1 ! $ free0 ! $
         keep ! (0 ∷ 1 ∷ 2 ∷ 7 ∷ 11 ∷ []) $
-        by ! (exits v u′ (zs .1 .1 .1 .0) (zs .1 .1 .1 .1 .1 .1 .1 .0) (to-rows r v (zs .1 .1 .1 .0) (zs .1 .1 .1 .1 .1 .1 .1 .0) q h) long-area long-index))))))))))))))))))))))))))
+        by ! (exits v u′ (zs .1 .1 .1 .0) (zs .1 .1 .1 .1 .1 .1 .1 .0)
+        (to-rows r v (zs .1 .1 .1 .0) (zs .1 .1 .1 .1 .1 .1 .1 .0) q h) long-area long-index))))))))))))))))))))))))))
 
 module _ {M : Type 1} (𝓤 : URA M) (H : Heap 𝓤) (A : Atoms 𝓤) (W : Given 𝓤 H A) (mem : Memory → SProp 𝓤) (run : Routine → Fun 𝓤)
-    (𝓣 : Tables 𝓤 H) (known-read : Triple 𝓤 (𝓣 .C #read) (Read 𝓤 H A mem run)) (known-work : Triple 𝓤 (𝓣 .C #work) (Work 𝓤 H A mem run)) where
+    (𝓣 : Tables 𝓤 H) (known-read : Triple 𝓤 (𝓣 .C #read) (Read 𝓤 H A mem run))
+    (known-work : Triple 𝓤 (𝓣 .C #work) (Work 𝓤 H A mem run)) where
   walks : Walks 𝓤 H A f.ended stayed (WpFn 𝓤 H (𝓣 .C) (𝓣 .Λ) code.function) (f.clauses 𝓤 H A mem run)
   walks = walked 𝓤 H A f.ended stayed (f.clauses 𝓤 H A mem run) (WpFn 𝓤 H (𝓣 .C) (𝓣 .Λ) code.function)
-      (λ κs. (uint-vals w64, (uint-vals w64, (uint-vals w64, (slice-vals, (slice-vals, (uint-vals w64, (uint-vals w64, (slice-vals, tt)))))))))
+      (λ κs. (
+        uint-vals w64,
+        (
+          uint-vals w64,
+          (
+            uint-vals w64,
+            (
+              slice-vals,
+              (
+                slice-vals,
+                (
+                  uint-vals w64,
+                  (
+                    uint-vals w64,
+                    (
+                      slice-vals,
+                      tt,
+                    ),
+                  ),
+                ),
+              ),
+            ),
+          ),
+        ),
+      ))
       (λ κs. (
         uint-tells w64,
         (
@@ -352,5 +470,7 @@ recover-spec 𝓤 H 𝓜 𝓖 𝓡 =
     entered 𝓤 H (tripleOf 𝓤 H (𝓖 .A) f.signature (f.spec 𝓤 H (𝓖 .A) (𝓜 .mem) (𝓡 .run)))
     (tables 𝓤 H 𝓜 𝓡 code.env .C) (tables 𝓤 H 𝓜 𝓡 code.env .Λ) #f code.function (code.unfolded 𝓤 H 𝓜 𝓡)
     (meets 𝓤 H (𝓖 .A) (givenOf 𝓤 H 𝓜 𝓖) (𝓜 .mem) (𝓡 .run) (tablesOf 𝓤 H 𝓜 (tables 𝓤 H 𝓜 𝓡 code.env))
-    (cited 𝓤 H (Read 𝓤 H (𝓖 .A) (𝓜 .mem) (𝓡 .run)) 𝓜 𝓡 code.env #read read-def.routine code.calls-recovery·read-rows (read-thm.met 𝓤 H 𝓜 𝓖 𝓡))
-    (cited 𝓤 H (Work 𝓤 H (𝓖 .A) (𝓜 .mem) (𝓡 .run)) 𝓜 𝓡 code.env #work work-def.routine code.calls-recovery·recover-rows (work-thm.met 𝓤 H 𝓜 𝓖 𝓡)))
+    (cited 𝓤 H (Read 𝓤 H (𝓖 .A) (𝓜 .mem) (𝓡 .run)) 𝓜 𝓡 code.env #read read-def.routine code.calls-recovery·read-rows
+    (read-thm.met 𝓤 H 𝓜 𝓖 𝓡))
+    (cited 𝓤 H (Work 𝓤 H (𝓖 .A) (𝓜 .mem) (𝓡 .run)) 𝓜 𝓡 code.env #work work-def.routine code.calls-recovery·recover-rows
+    (work-thm.met 𝓤 H 𝓜 𝓖 𝓡)))

@@ -69,7 +69,8 @@ fits c = sym (c .before .fit .ensures) ∙ not-false _ (c .if4 .left)
 -- so there are 64 at most
 few : (c : tie.Else4) → start-of (new-of (c .before .before .before .before .before)) .args .rows .count ≤ 64
 few c =
-    let b = start-of (new-of (c .before .before .before .before .before)) in fit-few (b .args .k) (b .args .c) (b .args .rows) (full b) (fits c)
+    let b = start-of (new-of (c .before .before .before .before .before)) in fit-few (b .args .k) (b .args .c) (b .args .rows) (full b)
+    (fits c)
 
 -- they are sorted
 sorted : (c : tie.After-sort)
@@ -125,7 +126,8 @@ returns-2 : tie.Need-returns-2
 returns-2 c =
     let e = c .before .before .before in
     did-back _ _ _ _ _ (new-of e .new-log .ensures .1)
-    (did-refused _ _ _ 11 _ (c .refusal2 .ensures) (way-one-zero _ _ _ _ _ _ _ _ (roomy e) (sym (c .before .before .one-zero .ensures) ∙ c .before .if2 .taken)))
+    (did-refused _ _ _ 11 _ (c .refusal2 .ensures) (way-one-zero _ _ _ _ _ _ _ _ (roomy e)
+    (sym (c .before .before .one-zero .ensures) ∙ c .before .if2 .taken)))
 
 refusal-requires-3 : tie.Need-refusal-requires-3
 refusal-requires-3 c κs = search needs
@@ -157,7 +159,8 @@ returns-4 c =
     let e = x .before .before in
     did-back _ _ _ _ _ (new-of e .new-log .ensures .1)
     (did-refused _ _ _ 13 _ (c .refusal4 .ensures)
-    (way-rows _ _ _ _ _ _ _ _ (roomy e) (range x) (y .if3 .left) (sym (c .before .before .fit .ensures) ∙ not-true _ (c .before .if4 .taken))))
+    (way-rows _ _ _ _ _ _ _ _ (roomy e) (range x) (y .if3 .left)
+    (sym (c .before .before .fit .ensures) ∙ not-true _ (c .before .if4 .taken))))
 
 sort-requires : tie.Need-sort-requires
 sort-requires c κs = few c
@@ -218,7 +221,8 @@ returns-7 c =
     let x = y .before in
     let e = x .before .before in
     did-back _ _ _ _ _ (new-of e .new-log .ensures .1)
-    (did-empty _ _ _ _ _ _ _ (ap (λ l. record { refusal = 0; rows = 0; log = l }) (new-accepts _ _ _ _ _ (new-of e .new-log .ensures .0) (e .if1 .left) .1))
+    (did-empty _ _ _ _ _ _ _ (ap (λ l. record { refusal = 0; rows = 0; log = l })
+    (new-accepts _ _ _ _ _ (new-of e .new-log .ensures .0) (e .if1 .left) .1))
     (way-empty _ _ _ _ _ _ _ _ (roomy e) (range x) (y .if3 .left) (fits z) (low u) (apart t) (c .before .if7 .taken)))
 
 scan-requires : tie.Need-scan-requires
@@ -231,7 +235,8 @@ scan-requires c κs =
     let x = y .before in
     let e = x .before .before in
     let b = start-of (new-of e) in
-    scan-asks _ _ _ _ _ (b .args .rows) _ _ _ (new-of e .new-log .ensures .1) (u .before .before .sort .ensures) (full b) (roomy e) (y .if3 .left)
+    scan-asks _ _ _ _ _ (b .args .rows) _ _ _ (new-of e .new-log .ensures .1) (u .before .before .sort .ensures) (full b) (roomy e)
+    (y .if3 .left)
     (r .if7 .left) (fits z) (low u) (apart t)
 
 same-length-8 : tie.Need-same-length-8

@@ -33,7 +33,8 @@ returns : tie.Need-returns
 returns c =
     let f = c .before .before .before .before in
     let b = start-of f in
-    did-fault _ _ _ _ _ _ _ _ (b .pre) (full b) _ (f .scan-images .result) (f .scan-images .ensures) _ (c .before .if1 .taken) (c .refusal .ensures)
+    did-fault _ _ _ _ _ _ _ _ (b .pre) (full b) _ (f .scan-images .result) (f .scan-images .ensures) _ (c .before .if1 .taken)
+    (c .refusal .ensures)
 
 close-requires : tie.Need-close-requires
 close-requires c κs =

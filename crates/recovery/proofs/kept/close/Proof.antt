@@ -32,7 +32,8 @@ some c = c .before .before .before .pre .some
 -- what is known of the last one's place
 room : (c : tie.After-keep)
     → let a = c .before .before .before .args in
-    CloseRoom (a .k) (a .c) (a .m) (a .s) (a .e) (a .count) (a .found) (gs-of c) (c .keep .result) (c .keep .ensures) (c .before .before .before .pre)
+    CloseRoom (a .k) (a .c) (a .m) (a .s) (a .e) (a .count) (a .found) (gs-of c) (c .keep .result) (c .keep .ensures)
+    (c .before .before .before .pre)
 room c = close-room _ _ _ _ _ _ _ _ _ (c .keep .ensures) (c .before .before .before .pre)
 
 -- the last one's index
@@ -84,7 +85,8 @@ same-length c = search needs
 returns : tie.Need-returns
 returns c =
     let k = c .before .before .before .before .before .before .before .before .before in
-    close-did _ _ _ _ _ _ _ (gs-of k) _ (k .keep .ensures) (k .before .before .before .pre) _ _ _ (c .closed .ensures) (c .before .before .before .before .zero-fill .ensures)
+    close-did _ _ _ _ _ _ _ (gs-of k) _ (k .keep .ensures) (k .before .before .before .pre) _ _ _ (c .closed .ensures)
+    (c .before .before .before .before .zero-fill .ensures)
 
 pub close-spec : {M : Type 1} → statement M
 close-spec =

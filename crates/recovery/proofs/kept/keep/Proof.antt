@@ -73,7 +73,8 @@ loop-again c =
 returns : tie.Need-returns Inv-loop μ-loop
 returns c =
     let l = c .before .loop in
-    keep-end _ _ _ (l .kept) (l .n) (l .i) (c .before .before .before .args .count) (omega (arith, l .inv .0, c .loop-test .left)) (l .inv .5)
+    keep-end _ _ _ (l .kept) (l .n) (l .i) (c .before .before .before .args .count) (omega (arith, l .inv .0, c .loop-test .left))
+    (l .inv .5)
 
 pub keep-spec : {M : Type 1} → statement M
 keep-spec =
