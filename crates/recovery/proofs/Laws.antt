@@ -58,7 +58,8 @@ use Rattle.recovery.specs.Recovery.{
 use Rattle.recovery.specs.Kept.{closedView}
 use Rattle.recovery.proofs.Order.{sort-inside, sort-apart}
 use Rattle.recovery.proofs.Shaped.{images-slots, slots-apart, kept-apart, closed-shaped}
-use Rattle.recovery.proofs.Ways.{Roomy, roomy-is, Fit, fit-is, Ids, ids-are, Keeps, scan-keeps, runs-last}
+use Rattle.recovery.proofs.Ways.{Roomy, roomy-is, Fit, fit-is, Ids, ids-are}
+use Rattle.recovery.proofs.Scanned.{Keeps, scan-keeps, runs-last}
 
 -- ---- two answers that the contract of `recover` allows are equal
 

@@ -7,6 +7,7 @@ pub mod Order
 pub mod Cut
 pub mod Shaped
 pub mod Ways
+pub mod Scanned
 pub mod Dependence
 pub mod Read
 pub mod Laws

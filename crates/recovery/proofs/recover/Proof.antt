@@ -18,59 +18,10 @@ use prog.Wp.{Heap, WpFn, Tables}
 use ghost.Atoms.{Atoms, sem}
 use contract.Monad.{Fun, fact}
 use contract.Running.{givenOf, tables, tablesOf}
-use types.Kit.{
-  Given,
-  Item,
-  ‵,
-  raw,
-  some,
-  later,
-  _⊛_,
-  ⋆,
-  _$_,
-  _∵_,
-  !,
-  qed,
-  by,
-  move,
-  keep,
-  use1,
-  use2,
-  split,
-  join,
-  pick,
-  fsplit,
-  fjoin,
-  feqL,
-  suffices,
-  frame,
-  await,
-  done,
-}
-use types.Run.{
-  look,
-  init,
-  forget,
-  stop,
-  hop,
-  fld,
-  from,
-  load,
-  addr,
-  and-then,
-  no-more,
-  assigns,
-  land,
-  returns,
-  enter,
-  alloc1,
-  alloc0,
-  params1,
-  pass1,
-  pass0,
-  free1,
-  free0,
-}
+use types.Kit.{Given, Item, ‵, raw, some, later, _⊛_, ⋆, _$_, _∵_, !, qed, by, move, keep, use1, use2, split, join, pick, fsplit, fjoin}
+use types.Kit.{feqL, suffices, frame, await, done}
+use types.Run.{look, init, forget, stop, hop, fld, from, load, addr, and-then, no-more, assigns, land, returns, enter, alloc1, alloc0}
+use types.Run.{params1, pass1, pass0, free1, free0}
 use types.Part.{agg, whole, sub, look-in}
 use sound.WpLaws.{fmOf, WpFn-mono}
 use denote.RattleType.{RattleType, owns}
@@ -87,20 +38,8 @@ use denote.Triple.Statement.{Contract, Triple}
 use denote.Triple.Call.{calls-at}
 use denote.Triple.Clauses.{ensured, lasts, Lasts}
 use denote.Triple.Table.{entered, cited}
-use denote.Triple.Walked.{
-  says,
-  Stays,
-  gave-slice,
-  stay-dropped,
-  walkOf,
-  goes-gave-slice,
-  goes-dropped,
-  AllGo,
-  Walks,
-  ends-at,
-  walked,
-  walk-meets,
-}
+use denote.Triple.Walked.{says, Stays, gave-slice, stay-dropped, walkOf, goes-gave-slice, goes-dropped, AllGo, Walks, ends-at, walked}
+use denote.Triple.Walked.{walk-meets}
 use denote.Exit.{yes}
 use denote.Signature.{Slot, plain, shrSliceOf}
 use Rattle.recovery_walk.specs.declared.ImageRow.{ImageRow}
