@@ -1,6 +1,8 @@
 -- Two answers that an exported function's contract allows are equal, and so is what two calls leave in each lent slice.
 -- Assumes nothing.
 use mathlib.Core.Path.{_≡_, _∙_, sym}
+use mathlib.Core.List.{List}
+use Prim.Native.Nat.{ℕ}
 use borrow.Fn.Kinds.{Dens, endedOf, resT}
 use denote.Triple.Clauses.{AtExit}
 use denote.Ref.{now}
@@ -13,6 +15,9 @@ use Rattle.iflughan.proofs.log.iflughan_prune_oldest.Reads as prune-old
 use Rattle.iflughan.proofs.log.iflughan_prune_oldest.Kinds as prune-oldest-kinds
 use Rattle.iflughan.proofs.log.iflughan_prune_recent.Reads as prune-recent
 use Rattle.iflughan.proofs.log.iflughan_prune_recent.Kinds as prune-recent-kinds
+use Rattle.recovery.specs.Recovery.{Recovery}
+use Rattle.iflughan.specs.Recover.{Recovers}
+use Rattle.iflughan.specs.declared.Recovered.{Recovered}
 use Rattle.iflughan.proofs.recover.iflughan_row_question.Reads as row-question
 use Rattle.iflughan.proofs.recover.iflughan_row_question.Kinds as row-question-kinds
 use Rattle.iflughan.proofs.recover.iflughan_payload.Reads as payload
@@ -49,6 +54,12 @@ pub iflughan-prune-recent-unique : (κs : Lfts 1) (a : Dens κs prune-recent-kin
     (e e′ : AtExit (endedOf 1 prune-recent-kinds.ps prune-recent-kinds.r) κs)
     → prune-recent.Learnt κs a r e → prune-recent.Learnt κs a r′ e′ → (r ≡ r′) × (now (e .1 .0) ≡ now (e′ .1 .0))
 iflughan-prune-recent-unique κs a r r′ e e′ p q = (p .0 ∙ sym (q .0), p .1 ∙ sym (q .1))
+
+-- `iflughan_recover`, of the record that its contract cites: one answer, one content of the area and one of the index
+pub iflughan-recover-unique : (o : Recovery) (area index : List ℕ) (r r′ : Recovered) (area′ area″ index′ index″ : List ℕ)
+    → Recovers o area index r area′ index′ → Recovers o area index r′ area″ index″ → (r ≡ r′) × (area′ ≡ area″) × (index′ ≡ index″)
+iflughan-recover-unique o area index r r′ area′ area″ index′ index″ p q =
+    (p .answer ∙ sym (q .answer), p .bytes ∙ sym (q .bytes), p .words ∙ sym (q .words))
 
 -- `iflughan_row_question`: one answer
 pub iflughan-row-question-unique : (κs : Lfts 1) (a : Dens κs row-question-kinds.ps) (r r′ : resT row-question-kinds.r κs .Denot)

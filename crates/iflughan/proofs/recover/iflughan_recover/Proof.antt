@@ -16,6 +16,7 @@ use prog.Routine.{Routine}
 use prog.Wp.{Heap, WpFn, Tables}
 use ghost.Atoms.{Atoms, sem}
 use contract.Monad.{Fun, fact}
+use contract.Lifetimes.{Lfts, Shares}
 use contract.Running.{givenOf, tables, tablesOf}
 use types.Kit.{Given, Item, ‵, raw, some, later, _⊛_, ⋆, _$_, _∵_, !, qed, by, move, keep, drop, use1, use2, split, join, pick, fsplit}
 use types.Kit.{fjoin, feqL, suffices, frame, await, done}
@@ -38,9 +39,9 @@ use denote.Triple.Call.{calls-at}
 use denote.Triple.Clauses.{ensured, lasts, Lasts}
 use denote.Triple.Table.{entered, cited}
 use denote.Triple.Walked.{says, Stays, gave-slice, stay-dropped, walkOf, goes-gave-slice, goes-dropped, Goes, AllGo, Walks, ends-at}
-use denote.Triple.Walked.{walked, walk-meets}
+use denote.Triple.Walked.{Stay, walked, walk-meets}
 use denote.Exit.{yes}
-use denote.Signature.{Slot, plain, shrSliceOf}
+use denote.Signature.{Slot, plain, shrSliceOf, mutSliceOf}
 use Rattle.recovery_walk.specs.declared.ImageRow.{ImageRow}
 use Rattle.recovery_walk.proofs.ImageRow as S
 use Rattle.recovery.specs.Recovery.{Recovery, recoveryOf, RecoveryDid}
@@ -80,23 +81,28 @@ num = plain (λ _. u64)
 abbrev rows : Slot 3
 rows = shrSliceOf (1 ∷ []) tt (plain (λ _. R))
 
+abbrev bytes : Slot 3
+bytes = mutSliceOf (0 ∷ []) tt (plain (λ _. u8))
+
+abbrev words : Slot 3
+words = mutSliceOf (2 ∷ []) tt (plain (λ _. u64))
+
+-- what is had at exit: of the area and of the index their last lists, of the others nothing
+abbrev none : Stay num yes
+none = stay-dropped num yes
+
+abbrev lent-area : Stay bytes yes
+lent-area = gave-slice (0 ∷ []) tt (plain (λ _. u8))
+
+abbrev lent-index : Stay words yes
+lent-index = gave-slice (2 ∷ []) tt (plain (λ _. u64))
+
 abbrev stayed : Stays (f.ended .signature .params) (f.ended .kept)
-stayed = (
-  stay-dropped num yes,
-  (
-    stay-dropped num yes,
-    (
-      stay-dropped num yes,
-      (
-        gave-slice (0 ∷ []) tt (plain (λ _. u8)),
-        (
-          stay-dropped rows yes,
-          (stay-dropped num yes, (stay-dropped num yes, (gave-slice (2 ∷ []) tt (plain (λ _. u64)), tt))),
-        ),
-      ),
-    ),
-  ),
-)
+stayed = (none, (none, (none, (lent-area, (stay-dropped rows yes, (none, (none, (lent-index, tt))))))))
+
+-- a number's machine values
+abbrev num-val : ℕ → List Val
+num-val n = vint w64 n ∷ []
 
 -- the contracts that the proof cites
 module _ {M : Type 1} (𝓤 : URA M) (H : Heap 𝓤) (A : Atoms 𝓤) (mem : Memory → SProp 𝓤) (run : Routine → Fun 𝓤) where
@@ -123,11 +129,21 @@ module _ {M : Type 1} (𝓤 : URA M) (H : Heap 𝓤) (A : Atoms 𝓤) (W : Given
   v-index = sliceVal (index .ptr) (length (index .now))
 
   abbrev vals : List Val × (List Val × (List Val × (List Val × (List Val × (List Val × (List Val × (List Val × Unit {0})))))))
-  vals = (vint w64 k ∷ [], (vint w64 c ∷ [], (vint w64 m ∷ [], (v-area ∷ [], (v-images ∷ [], (vint w64 s ∷ [], (vint w64 e ∷ [],
-      (v-index ∷ [], tt))))))))
+  vals = (num-val k, (num-val c, (num-val m, (v-area ∷ [], (v-images ∷ [], (num-val s, (num-val e, (v-index ∷ [], tt))))))))
+
+  -- the same as one list
+  abbrev passed : List Val
+  passed = vint w64 k ∷ vint w64 c ∷ vint w64 m ∷ v-area ∷ v-images ∷ vint w64 s ∷ vint w64 e ∷ v-index ∷ []
+
+  -- the lifetimes, and a share of the token of each
+  abbrev lfts : Lfts 3
+  lfts = (κ, (κ₁, (κ₂, tt)))
+
+  abbrev shares : Shares 3
+  shares = (q, (q₁, (q₂, tt)))
 
   abbrev bound : walkOf 𝓤 H A f.ended stayed (f.clauses 𝓤 H A mem run) .Ghost
-  bound = (((κ, (κ₁, (κ₂, tt))), (q, (q₁, (q₂, tt))), tt, a, vals), tt)
+  bound = ((lfts, shares, tt, a, vals), tt)
 
   abbrev Post : Val → SProp 𝓤
   Post = walkOf 𝓤 H A f.ended stayed (f.clauses 𝓤 H A mem run) .post bound
@@ -141,10 +157,17 @@ module _ {M : Type 1} (𝓤 : URA M) (H : Heap 𝓤) (A : Atoms 𝓤) (W : Given
 
   -- ---- `recover`: it is passed all arguments
   abbrev to : Recover 𝓤 H A mem run .Ghost
-  to = (((κ, (κ₁, (κ₂, tt))), (q, (q₁, (q₂, tt))), tt, a, vals), tt)
+  to = ((lfts, shares, tt, a, vals), tt)
 
   abbrev outcome : Recovery
   outcome = recoveryOf k c m (area .now) (images .now) s e (length (index .now))
+
+  -- the last lists of the area and of the index
+  abbrev area-of : Lasts g.ended lfts a → List ℕ
+  area-of ws = ws .1 .1 .1 .0
+
+  abbrev index-of : Lasts g.ended lfts a → List ℕ
+  index-of ws = ws .1 .1 .1 .1 .1 .1 .1 .0
 
   -- what it ensures of its answer and of the last lists
   abbrev Says : Library.Recovered → List ℕ → List ℕ → Type 0
@@ -160,75 +183,74 @@ module _ {M : Type 1} (𝓤 : URA M) (H : Heap 𝓤) (A : Atoms 𝓤) (W : Given
   asks-out : (r : Library.Recovered) (u : Val) → ent 𝓤 (⋆ 𝓤 H A (‵ (Answer .own r (u ∷ [])) ∷ [])) (Out 𝓤 H A mem run .pre (to-out r u))
   asks-out r u = qed W (‵ (Answer .own r (u ∷ [])) ∷ []) ∵ nothing ! $ move ! (1 ∷ 0 ∷ []) $ fjoin ! $ nothing ! $ join ! $ frame ! $ done !
 
-  says-out : (r : Library.Recovered) (x : Recovered) → ent 𝓤 (ensured 𝓤 H A out.ended (out.clauses 𝓤 H A mem run) tt (r, tt) tt x) (fact 𝓤
-      (x ≡ recoveredOut r))
+  says-out : (r : Library.Recovered) (x : Recovered) → ent 𝓤 (ensured 𝓤 H A out.ended (out.clauses 𝓤 H A mem run) tt (r, tt) tt x)
+      (fact 𝓤 (x ≡ recoveredOut r))
   says-out r x = exE 𝓤 _ (λ ws. snd∗ 𝓤 (sem 𝓤 H A (lasts out.ended tt (r, tt) ws)) (fact 𝓤 (x ≡ recoveredOut r)))
 
   exits : (x : Recovered) (u : Val) (zs ys : List ℕ) → Recovers outcome (area .now) (index .now) x zs ys → length zs ≡ length (area .now)
       → length ys ≡ length (index .now)
       → ent 𝓤 (⋆ 𝓤 H A (‵ (Crossed .own x (u ∷ [])) ∷ toks ∷ ‵ (finally u64 (index .name) ys) ∷ ‵ (finally u8 (area .name) zs) ∷ []))
-          (Post u)
+      (Post u)
   exits x u zs ys did l l′ =
       qed W (‵ (Crossed .own x (u ∷ [])) ∷ toks ∷ ‵ (finally u64 (index .name) ys) ∷ ‵ (finally u8 (area .name) zs) ∷ []) ∵
       suffices ! _ (ends-at 𝓤 H A f.ended stayed (f.clauses 𝓤 H A mem run) W bound u x (tt, (tt, (tt, (zs, (tt, (tt, (tt, (ys, tt))))))))
-          (tt, (tt, (tt, (l, (tt, (tt, (tt, (l′, tt))))))))) $ says ! did $
+      (tt, (tt, (tt, (l, (tt, (tt, (tt, (l′, tt))))))))) $ says ! did $
       move ! (1 ∷ []) $ frame ! $
       -- [the struct; the index's last list; the area's]
       nothing ! $ move ! (2 ∷ 0 ∷ []) $ fjoin ! $ nothing ! $ fjoin ! $ nothing ! $ fjoin ! $ nothing ! $ fjoin ! $ move ! (2 ∷ 0 ∷ []) $
-          fjoin ! $ nothing ! $ fjoin ! $ nothing ! $ fjoin ! $ nothing ! $ fjoin ! $ frame ! $ done !
+      fjoin ! $ nothing ! $ fjoin ! $ nothing ! $ fjoin ! $ nothing ! $ fjoin ! $ frame ! $ done !
 
   module _ (𝓣 : Tables 𝓤 H) (known : Triple 𝓤 (𝓣 .C #g) (Recover 𝓤 H A mem run)) (known-out : Triple 𝓤 (𝓣 .C #out)
       (Out 𝓤 H A mem run)) where
     walk : k < 2 ^ 64 → c < 2 ^ 64 → m < 2 ^ 64 → Room u8 (length (area .now)) → Room R (length (images .now)) → s < 2 ^ 64 → e < 2 ^ 64
         → Room u64 (length (index .now))
-        → ent 𝓤 (onEntry 𝓤 H A f.signature (κ, (κ₁, (κ₂, tt))) (q, (q₁, (q₂, tt))) a vals)
-        (WpFn 𝓤 H (𝓣 .C) (𝓣 .Λ) code.function
-        (vint w64 k ∷ vint w64 c ∷ vint w64 m ∷ v-area ∷ v-images ∷ vint w64 s ∷ vint w64 e ∷ v-index ∷ []) Post)
+        → ent 𝓤 (onEntry 𝓤 H A f.signature lfts shares a vals)
+        (WpFn 𝓤 H (𝓣 .C) (𝓣 .Λ) code.function passed Post)
     walk k-fits c-fits m-fits room room₁ s-fits e-fits room₂ =
-        qed W (toks ∷ ‵ own-a ∷ []) ∵ enter ! (𝓣 .C) (𝓣 .Λ) code.function
-        (vint w64 k ∷ vint w64 c ∷ vint w64 m ∷ v-area ∷ v-images ∷ vint w64 s ∷ vint w64 e ∷ v-index ∷ []) _ $
+        qed W (toks ∷ ‵ own-a ∷ []) ∵ enter ! (𝓣 .C) (𝓣 .Λ) code.function passed _ $
         alloc1 ! (λ l₀. alloc1 ! (λ l₁. alloc1 ! (λ l₂. alloc1 ! (λ l₃. alloc1 ! (λ l₄. alloc1 ! (λ l₅. alloc1 ! (λ l₆. alloc1 !
         (λ l₇. alloc1 ! (λ l₈. alloc1 ! (λ l₉. alloc1 ! (λ l₁₀. alloc1 ! (λ l₁₁. alloc1 ! (λ l₁₂. alloc1 ! (λ l₁₃. alloc0 ! $ params1 ! $
-        pass1 ! (init ! 24 refl (tt, record { fits = k-fits })) $ pass1 ! (init ! 22 refl (tt, record { fits = c-fits })) $ pass1 !
-        (init ! 20 refl (tt, record { fits = m-fits })) $ pass1 ! (init ! 18 refl (tt, (tt, (record { fits = room .0 }, tt)))) $
+        pass1 ! (init ! 24 refl (tt, record { fits = k-fits })) $ pass1 ! (init ! 22 refl (tt, record { fits = c-fits })) $
+        pass1 ! (init ! 20 refl (tt, record { fits = m-fits })) $ pass1 ! (init ! 18 refl (tt, (tt, (record { fits = room .0 }, tt)))) $
         pass1 ! (init ! 16 refl (tt, (tt, (record { fits = room₁ .0 }, tt)))) $ pass1 ! (init ! 14 refl (tt, record { fits = s-fits })) $
         pass1 ! (init ! 12 refl (tt, record { fits = e-fits })) $ pass1 ! (init ! 10 refl (tt, (tt, (record { fits = room₂ .0 }, tt)))) $
         pass0 ! $
         -- [_13; …; _0; …; the tokens; what the arguments own]: the area and the index are lent on
-        assigns ! (addr ! (from ! (fld ! refl (hop ! (look-in ! 18 (sub ! 0 refl (whole !))) (stop !))))) (from ! (stop !)) (init ! 6 refl
-        (tt, tt)) $
-        assigns ! (agg ! (and-then ! (load ! (from ! (stop !)) (look ! 6 refl)) (and-then ! (load ! (from ! (fld ! refl (stop !)))
-        (look-in ! 18 (sub ! 1 refl (whole !)))) (no-more !)))) (from ! (stop !)) (init ! 4 refl (tt, (tt,
-        (record { fits = room .0 }, tt)))) $
-        assigns ! (addr ! (from ! (fld ! refl (hop ! (look-in ! 10 (sub ! 0 refl (whole !))) (stop !))))) (from ! (stop !)) (init ! 2 refl
-        (tt, tt)) $
-        assigns ! (agg ! (and-then ! (load ! (from ! (stop !)) (look ! 2 refl)) (and-then ! (load ! (from ! (fld ! refl (stop !)))
-        (look-in ! 10 (sub ! 1 refl (whole !)))) (no-more !)))) (from ! (stop !)) (init ! 0 refl (tt, (tt,
-        (record { fits = room₂ .0 }, tt)))) $
+        assigns ! (addr ! (from ! (fld ! refl (hop ! (look-in ! 18 (sub ! 0 refl (whole !))) (stop !)))))
+        (from ! (stop !)) (init ! 6 refl (tt, tt)) $
+        assigns ! (agg ! (and-then ! (load ! (from ! (stop !)) (look ! 6 refl))
+        (and-then ! (load ! (from ! (fld ! refl (stop !))) (look-in ! 18 (sub ! 1 refl (whole !)))) (no-more !))))
+        (from ! (stop !)) (init ! 4 refl (tt, (tt, (record { fits = room .0 }, tt)))) $
+        assigns ! (addr ! (from ! (fld ! refl (hop ! (look-in ! 10 (sub ! 0 refl (whole !))) (stop !)))))
+        (from ! (stop !)) (init ! 2 refl (tt, tt)) $
+        assigns ! (agg ! (and-then ! (load ! (from ! (stop !)) (look ! 2 refl))
+        (and-then ! (load ! (from ! (fld ! refl (stop !))) (look-in ! 10 (sub ! 1 refl (whole !)))) (no-more !))))
+        (from ! (stop !)) (init ! 0 refl (tt, (tt, (record { fits = room₂ .0 }, tt)))) $
         move ! (28 ∷ 29 ∷ []) $ use2 W (raw (Recover 𝓤 H A mem run .pre to)) goes $
         -- [what `recover` asks; _13; …; _0; …]
         calls-at ! (fmOf 𝓤 H (W .laws) 𝓣) (Recover 𝓤 H A mem run) known to
-        (and-then ! (load ! (from ! (stop !)) (look ! 25 refl)) (and-then ! (load ! (from ! (stop !)) (look ! 23 refl)) (and-then !
-        (load ! (from ! (stop !)) (look ! 21 refl)) (and-then ! (load ! (from ! (stop !)) (look ! 5 refl))
-        (and-then ! (load ! (from ! (stop !)) (look ! 17 refl)) (and-then ! (load ! (from ! (stop !)) (look ! 15 refl)) (and-then !
-        (load ! (from ! (stop !)) (look ! 13 refl)) (and-then ! (load ! (from ! (stop !)) (look ! 1 refl)) (no-more !))))))))) (λ u.
-        use1 W (later (some (λ (r : Library.Recovered). (toks ⊛ ‵ (Answer .own r (u ∷ []))) ⊛ raw (ensured 𝓤 H A g.ended
-        (g.clauses 𝓤 H A mem run) (κ, (κ₁, (κ₂, tt))) a tt r)))) (id⊢ 𝓤 _) $ await ! tt $ pick ! (λ r.
-        split ! $ move ! (1 ∷ []) $ use1 W (some (λ (ws : Lasts g.ended (κ, (κ₁, (κ₂, tt))) a). ‵ (lasts g.ended (κ, (κ₁,
-        (κ₂, tt))) a ws) ⊛ raw (fact 𝓤 (Says r (ws .1 .1 .1 .0) (ws .1 .1 .1 .1 .1 .1 .1 .0))))) (id⊢ 𝓤 _) $ pick ! (λ ws.
-        split ! $ move ! (1 ∷ []) $ heard ! (Says r (ws .1 .1 .1 .0) (ws .1 .1 .1 .1 .1 .1 .1 .0)) (λ did.
+        (and-then ! (load ! (from ! (stop !)) (look ! 25 refl)) (and-then ! (load ! (from ! (stop !)) (look ! 23 refl))
+        (and-then ! (load ! (from ! (stop !)) (look ! 21 refl)) (and-then ! (load ! (from ! (stop !)) (look ! 5 refl))
+        (and-then ! (load ! (from ! (stop !)) (look ! 17 refl)) (and-then ! (load ! (from ! (stop !)) (look ! 15 refl))
+        (and-then ! (load ! (from ! (stop !)) (look ! 13 refl)) (and-then ! (load ! (from ! (stop !)) (look ! 1 refl)) (no-more !)))))))))
+        (λ u.
+        use1 W (later (some (λ (r : Library.Recovered). (toks ⊛ ‵ (Answer .own r (u ∷ []))) ⊛ raw
+        (ensured 𝓤 H A g.ended (g.clauses 𝓤 H A mem run) lfts a tt r)))) (id⊢ 𝓤 _) $ await ! tt $ pick ! (λ r.
+        split ! $ move ! (1 ∷ []) $ use1 W (some (λ (ws : Lasts g.ended lfts a). ‵ (lasts g.ended lfts a ws) ⊛ raw
+        (fact 𝓤 (Says r (area-of ws) (index-of ws))))) (id⊢ 𝓤 _) $ pick ! (λ ws.
+        split ! $ move ! (1 ∷ []) $ heard ! (Says r (area-of ws) (index-of ws)) (λ did.
         -- [what is said of each argument at exit; the tokens and the answer; _13; …; _0; …]
         fsplit ! $ drop ! $ fsplit ! $ drop ! $ fsplit ! $ drop ! $ fsplit ! $ fsplit ! $ move ! (1 ∷ []) $ feqL ! (λ l.
         move ! (1 ∷ []) $ fsplit ! $ drop ! $ fsplit ! $ drop ! $ fsplit ! $ drop ! $ fsplit ! $ fsplit ! $ move ! (1 ∷ []) $ feqL ! (λ l′.
-        move ! (1 ∷ []) $ drop ! $ move ! (2 ∷ []) $ split ! $ move ! (1 ∷ []) $ peeks ! Answer (Is Answer) (shows 𝓤 H A Answer) r
-        (u ∷ []) (λ is.
+        move ! (1 ∷ []) $ drop ! $ move ! (2 ∷ []) $ split ! $ move ! (1 ∷ []) $ peeks ! Answer (Is Answer) (shows 𝓤 H A Answer) r (u ∷ [])
+        (λ is.
         -- [what the answer owns; the tokens; the index's last list; the area's; _13; …; _0; …]
         land ! (from ! (stop !)) (init ! 12 refl (LL.lawful T.the-type T′.the-laws 𝓤 H A W .typed r _ is .0)) $
         use1 W (raw (Out 𝓤 H A mem run .pre (to-out r u))) (asks-out r u) $
-        calls-at ! (fmOf 𝓤 H (W .laws) 𝓣) (Out 𝓤 H A mem run) known-out (to-out r u) (and-then ! (load ! (from ! (stop !))
-        (look ! 12 refl)) (no-more !)) (λ u′.
-        use1 W (later (some (λ (x : Recovered). (‵ ftrue ⊛ ‵ (Crossed .own x (u′ ∷ []))) ⊛ raw (ensured 𝓤 H A out.ended
-        (out.clauses 𝓤 H A mem run) tt (r, tt) tt x)))) (id⊢ 𝓤 _) $ await ! tt $ pick ! (λ x.
+        calls-at ! (fmOf 𝓤 H (W .laws) 𝓣) (Out 𝓤 H A mem run) known-out (to-out r u)
+        (and-then ! (load ! (from ! (stop !)) (look ! 12 refl)) (no-more !)) (λ u′.
+        use1 W (later (some (λ (x : Recovered). (‵ ftrue ⊛ ‵ (Crossed .own x (u′ ∷ []))) ⊛ raw
+        (ensured 𝓤 H A out.ended (out.clauses 𝓤 H A mem run) tt (r, tt) tt x)))) (id⊢ 𝓤 _) $ await ! tt $ pick ! (λ x.
         split ! $ move ! (1 ∷ []) $ use1 W (raw (fact 𝓤 (x ≡ recoveredOut r))) (says-out r x) $ heard ! (x ≡ recoveredOut r)
         (λ same. split ! $ move ! (1 ∷ []) $ peeks ! Crossed (Is Crossed) (shows 𝓤 H A Crossed) x (u′ ∷ []) (λ is′.
         -- [the struct; true; the tokens; the index's last list; the area's; _13; …; _0; …]
@@ -237,37 +259,53 @@ module _ {M : Type 1} (𝓤 : URA M) (H : Heap 𝓤) (A : Atoms 𝓤) (W : Given
         forget ! 15 refl $ forget ! 17 refl $ forget ! 19 refl $ forget ! 21 refl $ forget ! 23 refl $ forget ! 25 refl $
         forget ! 27 refl $ forget ! 29 refl $ forget ! 31 refl $
         move ! (31 ∷ 32 ∷ []) $ free1 ! $ move ! (29 ∷ 30 ∷ []) $ free1 ! $ move ! (27 ∷ 28 ∷ []) $ free1 ! $ move ! (25 ∷ 26 ∷ []) $
-        free1 ! $ move ! (23 ∷ 24 ∷ []) $ free1 ! $ move ! (21 ∷ 22 ∷ []) $ free1 ! $ move ! (19 ∷ 20 ∷ []) $ free1 ! $ move !
-        (17 ∷ 18 ∷ []) $ free1 ! $ move ! (15 ∷ 16 ∷ []) $ free1 ! $ move ! (13 ∷ 14 ∷ []) $ free1 ! $ move ! (11 ∷ 12 ∷ []) $ free1 ! $
-        move ! (9 ∷ 10 ∷ []) $ free1 ! $ move ! (7 ∷ 8 ∷ []) $ free1 ! $ move ! (5 ∷ 6 ∷ []) $ free1 ! $ free0 ! $
-        keep ! (0 ∷ 2 ∷ 3 ∷ 4 ∷ []) $ by ! (exits x u′ (ws .1 .1 .1 .0) (ws .1 .1 .1 .1 .1 .1 .1 .0)
+        free1 ! $ move ! (23 ∷ 24 ∷ []) $ free1 ! $ move ! (21 ∷ 22 ∷ []) $ free1 ! $ move ! (19 ∷ 20 ∷ []) $ free1 ! $
+        move ! (17 ∷ 18 ∷ []) $ free1 ! $ move ! (15 ∷ 16 ∷ []) $ free1 ! $ move ! (13 ∷ 14 ∷ []) $ free1 ! $ move ! (11 ∷ 12 ∷ []) $
+        free1 ! $ move ! (9 ∷ 10 ∷ []) $ free1 ! $ move ! (7 ∷ 8 ∷ []) $ free1 ! $ move ! (5 ∷ 6 ∷ []) $ free1 ! $ free0 ! $
+        keep ! (0 ∷ 2 ∷ 3 ∷ 4 ∷ []) $ by ! (exits x u′ (area-of ws) (index-of ws)
         (record { answer = same ∙ ap recoveredOut (did .answer); bytes = did .bytes; words = did .words }) l l′))))))))))))))))))))))))))
 
 module _ {M : Type 1} (𝓤 : URA M) (H : Heap 𝓤) (A : Atoms 𝓤) (W : Given 𝓤 H A) (mem : Memory → SProp 𝓤) (run : Routine → Fun 𝓤)
     (𝓣 : Tables 𝓤 H) (known : Triple 𝓤 (𝓣 .C #g) (Recover 𝓤 H A mem run)) (known-out : Triple 𝓤 (𝓣 .C #out) (Out 𝓤 H A mem run)) where
   walks : Walks 𝓤 H A f.ended stayed (WpFn 𝓤 H (𝓣 .C) (𝓣 .Λ) code.function) (f.clauses 𝓤 H A mem run)
   walks = walked 𝓤 H A f.ended stayed (f.clauses 𝓤 H A mem run) (WpFn 𝓤 H (𝓣 .C) (𝓣 .Λ) code.function)
-      (λ κs. (uint-vals w64, (uint-vals w64, (uint-vals w64, (slice-vals, (slice-vals, (uint-vals w64, (uint-vals w64,
-          (slice-vals, tt)))))))))
-      (λ κs. (uint-tells w64, (uint-tells w64, (uint-tells w64, (mut-slice-tells (named 0) (κs .0) u8, (shr-slice-tells (named 1)
-          (κs .1 .0) R, (uint-tells w64, (uint-tells w64, (mut-slice-tells (named 2) (κs .1 .1 .0) u64, tt)))))))))
-      (λ κs qs bounds a g are. via 𝓤 _ (fst∗ 𝓤 _ (emp 𝓤)) (walk 𝓤 H A W mem run (κs .0) (κs .1 .0) (κs .1 .1 .0) (qs .0) (qs .1 .0)
-          (qs .1 .1 .0)
+      (λ κs. (
+        uint-vals w64,
+        (uint-vals w64, (uint-vals w64, (slice-vals, (slice-vals, (uint-vals w64, (uint-vals w64, (slice-vals, tt))))))),
+      ))
+      (λ κs.
+      let area = mut-slice-tells (named 0) (κs .0) u8 in
+      let images = shr-slice-tells (named 1) (κs .1 .0) R in
+      let index = mut-slice-tells (named 2) (κs .1 .1 .0) u64 in (
+        uint-tells w64,
+        (uint-tells w64, (uint-tells w64, (area, (images, (uint-tells w64, (uint-tells w64, (index, tt))))))),
+      ))
+      (λ κs qs bounds a g are. via 𝓤 _ (fst∗ 𝓤 _ (emp 𝓤))
+      (walk 𝓤 H A W mem run (κs .0) (κs .1 .0) (κs .1 .1 .0) (qs .0) (qs .1 .0) (qs .1 .1 .0)
       (a .0) (a .1 .0) (a .1 .1 .0) (a .1 .1 .1 .0) (a .1 .1 .1 .1 .0) (a .1 .1 .1 .1 .1 .0) (a .1 .1 .1 .1 .1 .1 .0)
-          (a .1 .1 .1 .1 .1 .1 .1 .0) 𝓣 known known-out
+      (a .1 .1 .1 .1 .1 .1 .1 .0) 𝓣 known known-out
       (are .0 .1) (are .1 .0 .1) (are .1 .1 .0 .1) (are .1 .1 .1 .0 .0 .1) (are .1 .1 .1 .1 .0 .0 .1) (are .1 .1 .1 .1 .1 .0 .1)
-          (are .1 .1 .1 .1 .1 .1 .0 .1) (are .1 .1 .1 .1 .1 .1 .1 .0 .0 .1)))
+      (are .1 .1 .1 .1 .1 .1 .0 .1) (are .1 .1 .1 .1 .1 .1 .1 .0 .0 .1)))
 
-  abbrev dropped : Goes 𝓤 H A W 3 num yes (stay-dropped num yes)
-  dropped = goes-dropped 𝓤 H A W 3 num yes (λ κs x f. refl)
+  abbrev num-goes : Goes 𝓤 H A W 3 num yes none
+  num-goes = goes-dropped 𝓤 H A W 3 num yes (λ κs x f. refl)
+
+  abbrev rows-go : Goes 𝓤 H A W 3 rows yes (stay-dropped rows yes)
+  rows-go = goes-dropped 𝓤 H A W 3 rows yes (λ κs x f. refl)
+
+  abbrev area-goes : Goes 𝓤 H A W 3 bytes yes lent-area
+  area-goes = goes-gave-slice 𝓤 H A W 3 0 tt (plain (λ _. u8))
+
+  abbrev index-goes : Goes 𝓤 H A W 3 words yes lent-index
+  index-goes = goes-gave-slice 𝓤 H A W 3 2 tt (plain (λ _. u64))
 
   all-go : AllGo 𝓤 H A W 3 (f.signature .params) (f.ended .kept) stayed
-  all-go = (dropped, (dropped, (dropped, (goes-gave-slice 𝓤 H A W 3 0 tt (plain (λ _. u8)), (goes-dropped 𝓤 H A W 3 rows yes
-      (λ κs x f. refl), (dropped, (dropped, (goes-gave-slice 𝓤 H A W 3 2 tt (plain (λ _. u64)), tt))))))))
+  all-go = (num-goes, (num-goes, (num-goes, (area-goes, (rows-go, (num-goes, (num-goes, (index-goes, tt))))))))
 
   meets : Meets 𝓤 H A f.signature (WpFn 𝓤 H (𝓣 .C) (𝓣 .Λ) code.function) (f.spec 𝓤 H A mem run)
-  meets = walk-meets 𝓤 H A f.ended stayed W all-go (f.clauses 𝓤 H A mem run) (WpFn 𝓤 H (𝓣 .C) (𝓣 .Λ) code.function) (WpFn-mono 𝓤 H
-      (W .laws) 𝓣 code.function) walks
+  meets =
+      walk-meets 𝓤 H A f.ended stayed W all-go (f.clauses 𝓤 H A mem run) (WpFn 𝓤 H (𝓣 .C) (𝓣 .Λ) code.function)
+      (WpFn-mono 𝓤 H (W .laws) 𝓣 code.function) walks
 
 pub iflughan-recover-spec : {M : Type 1} → stated.statement M
 unfolding code.routine tablesOf
@@ -275,6 +313,7 @@ iflughan-recover-spec 𝓤 H 𝓜 𝓖 𝓡 =
     entered 𝓤 H (tripleOf 𝓤 H (𝓖 .A) f.signature (f.spec 𝓤 H (𝓖 .A) (𝓜 .mem) (𝓡 .run)))
     (tables 𝓤 H 𝓜 𝓡 code.env .C) (tables 𝓤 H 𝓜 𝓡 code.env .Λ) #f code.function (code.unfolded 𝓤 H 𝓜 𝓡)
     (meets 𝓤 H (𝓖 .A) (givenOf 𝓤 H 𝓜 𝓖) (𝓜 .mem) (𝓡 .run) (tablesOf 𝓤 H 𝓜 (tables 𝓤 H 𝓜 𝓡 code.env))
-    (cited 𝓤 H (Recover 𝓤 H (𝓖 .A) (𝓜 .mem) (𝓡 .run)) 𝓜 𝓡 code.env #g g-def.routine code.calls-recovery·recover (g-thm.met 𝓤 H 𝓜 𝓖 𝓡))
+    (cited 𝓤 H (Recover 𝓤 H (𝓖 .A) (𝓜 .mem) (𝓡 .run)) 𝓜 𝓡 code.env #g g-def.routine code.calls-recovery·recover
+    (g-thm.met 𝓤 H 𝓜 𝓖 𝓡))
     (cited 𝓤 H (Out 𝓤 H (𝓖 .A) (𝓜 .mem) (𝓡 .run)) 𝓜 𝓡 code.env #out out-def.routine code.calls-iflughan·recover·recovered-out
-        (out-thm.met 𝓤 H 𝓜 𝓖 𝓡)))
+    (out-thm.met 𝓤 H 𝓜 𝓖 𝓡)))
