@@ -4,6 +4,8 @@
 use report::number;
 use report::say;
 use seglog::Log;
+use seglog::Segment;
+use segment_filename::Formatted;
 
 const K: u64 = 4;
 
@@ -82,6 +84,32 @@ fn clear(path: &[u8]) {
     image_files::remove(path, b"scans", found);
 }
 
+// The name and the size of a segment's file.
+fn file_of(segment: Segment) {
+    let mut name = [0u8; 64];
+    let answer = segment_filename::format(b"scans", segment.id, &mut name);
+    let Formatted::Length(n) = answer else {
+        return;
+    };
+    say(b"wrote ");
+    say(slices::front(&name, n));
+    report::named(b",", segment.size);
+    say(b" bytes\n");
+}
+
+// The files of the log's segments.
+fn written(log: Log) {
+    let mut i: usize = 0;
+    while i < 64 {
+        if log.count <= i {
+            return;
+        }
+        let segment = log.segs[i];
+        file_of(segment);
+        i += 1;
+    }
+}
+
 // Writes the log's images and recovers its live range from them.
 fn written_and_recovered(path: &[u8], log: Log, area: &[u8]) -> bool {
     clear(path);
@@ -89,6 +117,7 @@ fn written_and_recovered(path: &[u8], log: Log, area: &[u8]) -> bool {
         say(b"the folder cannot be written\n");
         return false;
     }
+    written(log);
     recover(path, log.start, log.end)
 }
 
@@ -110,8 +139,8 @@ fn main() {
     let given = os::arg(1, &mut path);
     let good = if given == 0 { run(b".") } else { run(&path[..given]) };
     if good {
-        say(b"ok, 7 records appended, 5 live and recovered from the files\n");
+        say(b"ok 8 records appended, the 5 live ones recovered from the files\n");
     } else {
-        say(b"refused, see above\n");
+        say(b"refused, as said above\n");
     }
 }

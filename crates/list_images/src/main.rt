@@ -1,7 +1,7 @@
 // What a folder of segment images holds: list_images FOLDER PREFIX [FIRST [S E]]
 // Takes the files from segment id FIRST on (the first that is there, where FIRST is not given), up to the first that is missing, recovers
 // S..E (the whole, from the first record to the last, where no range is given) and writes specimen 13's lines. Nothing is changed.
-// Up to 64 images; their number times the largest is at most 4 MiB.
+// Up to 64 images; their number times the largest is at most 4 MiB. It reads folders that the original wrote: those of data/ were.
 mod arguments;
 mod images;
 
@@ -26,8 +26,8 @@ fn list(area: &mut [u8], c: u64, images: recovery::Rows, s: u64, e: u64) {
     listing::kept(recovered.log);
     listing::rows(&index, recovered.rows);
     report::named(b"ok", recovered.rows);
-    report::named(b" records in images", k);
-    say(b"\n");
+    report::named(b" records in", k);
+    say(b" images\n");
 }
 
 // Reads the images that were found, and lists them.
