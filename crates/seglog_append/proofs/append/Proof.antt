@@ -80,8 +80,8 @@ past c =
     record {
       long = search (needs, unmapped);
       fits = sym (c .before .before .before .fits2 .ensures) ∙ not-false _ (c .before .before .if1 .left);
-      small = c .before .if2 .left;
-      more = c .if3 .left;
+      small = omega (arith, c .before .if2 .left);
+      more = λ z. omega (arith, c .if3 .left);
     }
 
 -- whether a new segment is wanted
@@ -142,7 +142,7 @@ returns-2 c =
     let long : length (a .t1 .segs) ≡ 64 = search (needs, unmapped) in
     let why =
     way-3 (a .t1) (a .area .now) (a .payload .now) long
-    (sym (c .before .before .before .fits2 .ensures) ∙ not-false _ (c .before .before .if1 .left)) (c .before .if2 .taken) in
+    (sym (c .before .before .before .fits2 .ensures) ∙ not-false _ (c .before .before .if1 .left)) (omega (arith, c .before .if2 .taken)) in
     (refused-answer (a .t1) 3 _ _ why (c .refuse2 .ensures), refused-area (a .area .now) 3 _ why)
 
 refuse-requires-3 : tie.Need-refuse-requires-3
@@ -155,8 +155,8 @@ returns-3 c =
     let why =
     way-4 (a .t1) (a .area .now) (a .payload .now) long
     (sym (c .before .before .before .before .fits2 .ensures) ∙ not-false _ (c .before .before .before .if1 .left))
-    (c .before .before .if2 .left)
-    (c .before .if3 .taken) in
+    (omega (arith, c .before .before .if2 .left))
+    (omega (arith, c .before .if3 .taken)) in
     (refused-answer (a .t1) 4 _ _ why (c .refuse3 .ensures), refused-area (a .area .now) 4 _ why)
 
 add-id : tie.Need-add-id
