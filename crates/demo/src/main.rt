@@ -54,7 +54,11 @@ fn first_scans(log: Log, area: &mut [u8]) -> Log {
 fn later_scans(log: Log, area: &mut [u8]) -> Log {
     let a = append(log, &mut *area, b"scan 1003, skull, series 2");
     let b = append(a, &mut *area, b"scan 1004, hand, series 1");
-    append(b, area, b"scan 1004, hand, series 1, taken for another patient's")
+    append(
+        b,
+        area,
+        b"scan 1004, hand, series 1, taken for another patient's",
+    )
 }
 
 fn archive(area: &mut [u8]) -> Log {
@@ -137,7 +141,11 @@ fn run(path: &[u8]) -> bool {
 fn main() {
     let mut path = io::buffer();
     let given = os::arg(1, &mut path);
-    let good = if given == 0 { run(b".") } else { run(&path[..given]) };
+    let good = if given == 0 {
+        run(b".")
+    } else {
+        run(&path[..given])
+    };
     if good {
         say(b"ok 8 records appended, the 5 live ones recovered from the files\n");
     } else {

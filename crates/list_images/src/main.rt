@@ -62,8 +62,22 @@ fn work(area: &mut [u8]) {
         say(b"refused 30: list_images FOLDER PREFIX [FIRST [S E]]\n");
         return;
     }
-    let found = image_files::find(&folder[..folder_length], &prefix[..prefix_length], arguments::first(), &mut *area);
-    list_found(&folder[..folder_length], &prefix[..prefix_length], found, area);
+    let found = image_files::find(
+        &folder[..folder_length],
+        &prefix[..prefix_length],
+        arguments::first(),
+        &mut *area,
+    );
+    if found.count == 0 {
+        say(b"refused 1: no image of this prefix\n");
+        return;
+    }
+    list_found(
+        &folder[..folder_length],
+        &prefix[..prefix_length],
+        found,
+        area,
+    );
 }
 
 fn main() {

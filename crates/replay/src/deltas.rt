@@ -22,7 +22,10 @@ fn value_stands(row: Row, input: &[u8], rows: &[u8], at: usize) -> bool {
     }
     let n = size as usize;
     let from = row.offset as usize;
-    fields::same(slices::between(input, from, from + n), slices::between(rows, at + 4, at + 4 + n))
+    fields::same(
+        slices::between(input, from, from + n),
+        slices::between(rows, at + 4, at + 4 + n),
+    )
 }
 
 // Where the row's bytes end: key, mark, value length, value; 0 where others stand there.
@@ -73,7 +76,13 @@ pub(crate) fn decoded(line: &[u8], input: &mut [u8], rows: &mut [u8]) -> bool {
         return answers::decoding(answer) == wanted;
     };
     let whole = consumed as u64 == fields::hex(fields::word(line, 4));
-    (wanted == 0) & whole & rows_same(decoded.table, slices::front(input, n), slices::front(rows, m))
+    (wanted == 0)
+        & whole
+        & rows_same(
+            decoded.table,
+            slices::front(input, n),
+            slices::front(rows, m),
+        )
 }
 
 // Whether the input, decoded and encoded again, is these bytes; or the refusal is the departure.
@@ -91,5 +100,9 @@ fn encodes_as(input: &[u8], bytes: &[u8], departure: u32) -> bool {
 pub(crate) fn encoded(line: &[u8], input: &mut [u8], bytes: &mut [u8]) -> bool {
     let n = fields::bytes(fields::word(line, 2), &mut *input);
     let m = fields::bytes(fields::word(line, 3), &mut *bytes);
-    encodes_as(slices::front(input, n), slices::front(bytes, m), fields::departure(line))
+    encodes_as(
+        slices::front(input, n),
+        slices::front(bytes, m),
+        fields::departure(line),
+    )
 }

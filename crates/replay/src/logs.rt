@@ -117,7 +117,10 @@ pub(crate) fn recent(line: &[u8], log: Log, area: &mut [u8]) -> Turn {
 
 // The digest with one delivered record: its id and its payload.
 fn delivered(sum: u64, log: Log, area: &[u8], id: u64, slot: u64, offset: u64, length: u64) -> u64 {
-    digest::of(digest::of_number(sum, id), payload::payload(log, area, id, slot, offset, length))
+    digest::of(
+        digest::of_number(sum, id),
+        payload::payload(log, area, id, slot, offset, length),
+    )
 }
 
 // The digest of what the first `count` index rows deliver.
@@ -129,7 +132,15 @@ fn all_delivered(log: Log, area: &[u8], index: &[u64], count: u64) -> u64 {
         if index.len() - at < 4 {
             return 0;
         }
-        sum = delivered(sum, log, area, index[at], index[at + 1], index[at + 2], index[at + 3]);
+        sum = delivered(
+            sum,
+            log,
+            area,
+            index[at],
+            index[at + 1],
+            index[at + 2],
+            index[at + 3],
+        );
         at += 4;
         left -= 1;
     }

@@ -68,7 +68,14 @@ fn codec(kind: usize, line: &[u8], one: &mut [u8], two: &mut [u8]) -> bool {
 }
 
 // Replays one line.
-fn replay(kind: usize, line: &[u8], log: Log, area: &mut [u8], one: &mut [u8], two: &mut [u8]) -> Turn {
+fn replay(
+    kind: usize,
+    line: &[u8],
+    log: Log,
+    area: &mut [u8],
+    one: &mut [u8],
+    two: &mut [u8],
+) -> Turn {
     if kind < 4 {
         return Turn {
             good: codec(kind, line, one, two),
@@ -108,7 +115,13 @@ fn step(file: i32, at: u64, log: Log, area: &mut [u8], one: &mut [u8], two: &mut
 }
 
 // Replays line after line; the number of the first that differs, 0 where none does.
-fn replay_all(file: i32, counts: &mut [u64; 9], area: &mut [u8], one: &mut [u8], two: &mut [u8]) -> u64 {
+fn replay_all(
+    file: i32,
+    counts: &mut [u64; 9],
+    area: &mut [u8],
+    one: &mut [u8],
+    two: &mut [u8],
+) -> u64 {
     let fresh = seglog::new_log(1, 4096, 4096, &mut *area);
     let mut log = fresh.log;
     let mut at: u64 = 0;

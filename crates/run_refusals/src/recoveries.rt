@@ -37,7 +37,16 @@ fn damaged(pair: Pair, s: u64, e: u64, at: usize, byte: u8) -> u32 {
     samples::filled(&mut area, 8192, 4);
     let mut index = [0u64; 16];
     lists::copy_into(&mut area, at, &[byte]);
-    let recovered = recovery::recover_rows(2, 8192, 8192, &mut area, listed(pair), s, e, &mut index);
+    let recovered = recovery::recover_rows(
+        2,
+        8192,
+        8192,
+        &mut area,
+        listed(pair),
+        s,
+        e,
+        &mut index,
+    );
     recovered.refusal
 }
 
@@ -53,7 +62,11 @@ pub(crate) fn ranges_and_rows() -> bool {
         first: row(1, 0, 8192),
         second: row(2, 2, 8192),
     };
-    let rows = met(recover(slot, 1, 4), 13, b"over 64 rows, slot >= K, slot twice, or size > C");
+    let rows = met(
+        recover(slot, 1, 4),
+        13,
+        b"over 64 rows, slot >= K, slot twice, or size > C",
+    );
     let lowest = Pair {
         first: row(0, 0, 8192),
         second: row(1, 1, 8192),
@@ -63,7 +76,11 @@ pub(crate) fn ranges_and_rows() -> bool {
         first: row(1, 0, 8192),
         second: row(3, 1, 8192),
     };
-    let apart = met(recover(gap, 1, 4), 15, b"neighbours not 1 apart (equal too)");
+    let apart = met(
+        recover(gap, 1, 4),
+        15,
+        b"neighbours not 1 apart (equal too)",
+    );
     zero & order & rows & id & apart
 }
 
@@ -72,14 +89,26 @@ pub(crate) fn walks() -> bool {
         first: row(1, 0, 0),
         second: row(2, 1, 8192),
     };
-    let empty = met(recover(hole, 3, 4), 16, b"image of size above 0 directly after one of size 0");
+    let empty = met(
+        recover(hole, 3, 4),
+        16,
+        b"image of size above 0 directly after one of size 0",
+    );
     let torn = Pair {
         first: row(1, 0, 8192),
         second: row(2, 1, 4100),
     };
     let header = met(recover(torn, 1, 3), 17, b"short header");
-    let length = met(damaged(whole(), 1, 4, 3, 255), 18, b"header length above 2^30");
-    let sequence = met(damaged(whole(), 1, 4, 4100, 9), 19, b"record id 0 or out of sequence");
+    let length = met(
+        damaged(whole(), 1, 4, 3, 255),
+        18,
+        b"header length above 2^30",
+    );
+    let sequence = met(
+        damaged(whole(), 1, 4, 4100, 9),
+        19,
+        b"record id 0 or out of sequence",
+    );
     let cut = Pair {
         first: row(1, 0, 8192),
         second: row(2, 1, 4110),
@@ -93,7 +122,16 @@ fn one_row() -> u32 {
     let mut area = [0u8; 16384];
     samples::filled(&mut area, 8192, 4);
     let mut index = [0u64; 4];
-    let recovered = recovery::recover_rows(2, 8192, 8192, &mut area, listed(whole()), 1, 2, &mut index);
+    let recovered = recovery::recover_rows(
+        2,
+        8192,
+        8192,
+        &mut area,
+        listed(whole()),
+        1,
+        2,
+        &mut index,
+    );
     recovered.refusal
 }
 
@@ -107,7 +145,15 @@ fn asked(slot: u64) -> u32 {
 pub(crate) fn ends() -> bool {
     let start = met(recover(whole(), 9, 9), 21, b"s not found");
     let end = met(recover(whole(), 3, 5), 22, b"e not found");
-    let room = met(one_row(), 23, b"fewer than 4 index words for each live record");
-    let row = met(asked(2), 24, b"row asked for (after 2): slot >= K, or offset + length above C as whole numbers");
+    let room = met(
+        one_row(),
+        23,
+        b"fewer than 4 index words for each live record",
+    );
+    let row = met(
+        asked(2),
+        24,
+        b"row asked for (after 2): slot >= K, or offset + length above C as whole numbers",
+    );
     start & end & room & row
 }
