@@ -2,7 +2,8 @@
 -- Assumes nothing.
 use mathlib.Core.Path.{_≡_, sym, ap, _∙_}
 use borrow.Author.Needs.{needs}
-use Rattle.payload.proofs.Row.{GoodRow, row-good}
+use Rattle.payload.specs.Payload.{GoodRow}
+use Rattle.payload.proofs.Row.{row-good}
 use Rattle.iflughan.specs.Recover.{noPart, partOf}
 use Rattle.iflughan.proofs.Place.{part-other}
 use Rattle.iflughan.proofs.recover.iflughan_payload.Statement.{statement}
