@@ -8,7 +8,8 @@ use Rattle.image_files.proofs.load.Statement.{statement}
 use Rattle.image_files.proofs.load.Tie as tie
 
 abbrev Inv-loop : tie.InvT-loop
-Inv-loop folder prefix found area₀ c rows₀ id₀ at₀ i₀ area rows id at i = (i ≤ 64) × (at ≤ length area) × (length area ≡ length area₀) × (length rows ≡ 64)
+Inv-loop folder prefix found area₀ c rows₀ id₀ at₀ i₀ area rows id at i =
+    (i ≤ 64) × (at ≤ length area) × (length area ≡ length area₀) × (length rows ≡ 64)
 
 abbrev μ-loop : tie.MeasureT-loop
 μ-loop folder prefix found area₀ c rows₀ id₀ at₀ i₀ area rows id at i = 64 - i
