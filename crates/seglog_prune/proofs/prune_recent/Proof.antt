@@ -1,11 +1,11 @@
 -- `seglog_prune::prune_recent` meets its contract: the shared tests decide, or the cut is looked for in the last segment that stays.
 -- Assumes nothing.
-use mathlib.Core.Path.{_≡_, sym, ap, _∙_}
+use mathlib.Core.Path.{_≡_, refl, sym, ap, _∙_}
 use mathlib.Core.List.{List}
 use Prim.Native.Nat.{ℕ, _+_, _-_, _*_, _≤_, _<_}
 use native.Mathlib.Nat.{le-trans}
 use native.Mathlib.Omega.{arith}
-use lib.ListN.{length, getD, take, drop, replicate, length-take}
+use lib.ListN.{length, getD, take, drop, replicate}
 use Rattle.lists.specs.Splice.{splice}
 use Rattle.seglog.specs.declared.Log.{Log}
 use Rattle.seglog.specs.declared.Segment.{Segment}
@@ -17,7 +17,7 @@ use Rattle.seglog.proofs.Fit.{SegmentGood}
 use Rattle.seglog_prune.specs.declared.Early.the-variants.{Onward}
 use Rattle.seglog_prune.specs.Prune.{cutAt, findCut, imageIn, pruneAnswer, pruneArea}
 use Rattle.seglog_prune.specs.Steps.{earlyOf, cutOf}
-use Rattle.seglog_prune.proofs.Bounds.{last-fits, last-below, slot-fits, part-fits, part-within, start-first, rest-of}
+use Rattle.seglog_prune.proofs.Bounds.{last-fits, last-below, slot-fits, part-fits, part-within, start-first, rest-of, take-within, image-room}
 use Rattle.seglog_prune.proofs.Cut.{cut-within}
 use Rattle.seglog_prune.proofs.Decide.{inner, plain-few, fits-plain}
 use Rattle.seglog_prune.proofs.Inside.{area-small}
@@ -106,7 +106,7 @@ module _ (c : tie.After-remaining) where
       front a b = omega arith
 
   image-small : length (imageIn (area-of c) (log-of c .c) (head-of c)) ≤ log-of c .c
-  image-small = omega (arith, length-take (head-of c .size) (drop (head-of c .slot * log-of c .c) (area-of c)), good .size)
+  image-small = take-within (head-of c .size) (drop (head-of c .slot * log-of c .c) (area-of c)) (good .size)
 
 -- what the search answers is what is found in the image
 found : (c : tie.After-find-cut) → let r = left-at c in
@@ -127,7 +127,7 @@ decide-early-requires : tie.Need-decide-early-requires
 decide-early-requires c κs = tt
 
 enum-told : tie.Need-enum-told
-enum-told c = search needs
+enum-told c = c .match .keys1
 
 settled-requires : tie.Need-settled-requires
 settled-requires c κs = tt
@@ -175,16 +175,16 @@ part-find-cut-end c = let r = c .before .before .before .before in part-within _
 find-cut-requires : tie.Need-find-cut-requires
 find-cut-requires c κs =
     let r = c .before .before .before .before .before in
-    omega (arith, ap length (image-is r), image-small r, pages r .at-most)
+    image-room (ap length (image-is r)) (image-small r) (pages r .at-most)
 
 enum-known-end : tie.Need-enum-known-end
-enum-known-end c = search needs
+enum-known-end c = c .match2 .keys1
 
 enum-told-2 : tie.Need-enum-told-2
-enum-told-2 c = search needs
+enum-told-2 c = c .match2 .keys2
 
 same-length : tie.Need-same-length
-same-length c = search needs
+same-length c = refl
 
 returns-2 : tie.Need-returns-2
 returns-2 c =

@@ -181,10 +181,10 @@ record-step-requires c κs =
     }
 
 enum-known-step : tie.Need-enum-known-step Inv-records μ-records Inv-images μ-images
-enum-known-step c = search needs
+enum-known-step c = c .match .keys1
 
 enum-told : tie.Need-enum-told Inv-records μ-records Inv-images μ-images
-enum-told c = search needs
+enum-told c = c .match .keys2
 
 is-live-requires : tie.Need-is-live-requires Inv-records μ-records Inv-images μ-images
 is-live-requires c κs = tt

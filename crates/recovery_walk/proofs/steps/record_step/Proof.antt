@@ -48,7 +48,7 @@ read-header-requires : tie.Need-read-header-requires
 read-header-requires c κs = tt
 
 enum-known-answer : tie.Need-enum-known-answer
-enum-known-answer c = search needs
+enum-known-answer c = c .match .keys1
 
 header-number-requires : tie.Need-header-number-requires
 header-number-requires c κs = tt

@@ -248,10 +248,10 @@ record-step-requires c κs =
     }
 
 enum-known-step : tie.Need-enum-known-step Inv-records μ-records Inv-images μ-images
-enum-known-step c = search needs
+enum-known-step c = c .match .keys1
 
 enum-told : tie.Need-enum-told Inv-records μ-records Inv-images μ-images
-enum-told c = search needs
+enum-told c = c .match .keys2
 
 number-requires : tie.Need-number-requires Inv-records μ-records Inv-images μ-images
 number-requires c κs = tt
