@@ -3,7 +3,7 @@
 use mathlib.Core.Path.{_≡_}
 use Prim.Native.Nat.{ℕ, _+_, _-_, _*_, _^_, _≤_, _<_}
 use native.Mathlib.Omega.{arith}
-use mir.Syntax.{w64}
+use mir.Syntax.{w32, w64}
 use mir.Val.{Fits}
 
 -- ---- the row i of the first n rows
@@ -62,3 +62,69 @@ part-first p n = omega arith
 
 pub part-size : (p n : ℕ) → p + n - p ≡ n
 part-size p n = omega arith
+
+-- ---- measuring, from the last row to the first: i rows are left, e and k are counted, a row takes 4294967332 bytes at most
+
+pub widened : {n : ℕ} → Fits w32 n → Fits w64 n
+widened f = omega (arith, f .fits)
+
+pub some-left : {i : ℕ} → 0 < i → 1 ≤ i
+some-left h = omega arith
+
+pub none-left : {i : ℕ} → i ≤ 0 → i ≡ 0
+none-left h = omega arith
+
+pub left-falls : {i : ℕ} → 0 < i → i - 1 < i
+left-falls h = omega arith
+
+pub left-within : {i n : ℕ} → i ≤ n → i - 1 ≤ n
+left-within h = omega arith
+
+pub last-below : {i n : ℕ} → i ≤ n → n ≤ 256 → i - 1 < 256
+last-below h s = omega arith
+
+pub last-fits : {i n : ℕ} → i ≤ n → n ≤ 256 → Fits w64 ((i - 1) * 56)
+last-fits h s = omega arith
+
+pub count-start : (n : ℕ) → 0 + 0 + n ≡ n
+count-start n = omega arith
+
+pub erases-fit : (e k i : ℕ) {n : ℕ} → e + k + i ≡ n → n ≤ 256 → Fits w32 (e + 1)
+erases-fit e k i q s = omega arith
+
+pub reinstates-fit : (e k i : ℕ) {n : ℕ} → e + k + i ≡ n → n ≤ 256 → Fits w32 (k + 1)
+reinstates-fit e k i q s = omega arith
+
+pub erase-counted : (e k : ℕ) {i n : ℕ} → 0 < i → e + k + i ≡ n → e + 1 + k + (i - 1) ≡ n
+erase-counted e k h q = omega arith
+
+pub reinstate-counted : (e k : ℕ) {i n : ℕ} → 0 < i → e + k + i ≡ n → e + (k + 1) + (i - 1) ≡ n
+reinstate-counted e k h q = omega arith
+
+pub none-more : (e : ℕ) {x : ℕ} → x ≡ 0 → e ≡ x + e
+none-more e q = omega arith
+
+pub one-more : (e : ℕ) {x : ℕ} → x ≡ 1 → e + 1 ≡ x + e
+one-more e q = omega arith
+
+pub erase-size : (size : ℕ) {r x : ℕ} → r ≡ 32 → x ≡ 32 → size + r ≡ x + size
+erase-size size q e = omega arith
+
+pub reinstate-size : (size m : ℕ) {r x : ℕ} → r ≡ 32 → x ≡ 36 + m → size + r + (4 + m) ≡ x + size
+reinstate-size size m q e = omega arith
+
+pub length-fits : {m : ℕ} → Fits w32 m → Fits w64 (4 + m)
+length-fits f = omega (arith, f .fits)
+
+module _ (size i n : ℕ) {r : ℕ} (b : size + i * 4294967332 ≤ 8 + n * 4294967332) (q : r ≡ 32) where
+  pub erase-fits : n ≤ 256 → Fits w64 (size + r)
+  erase-fits s = omega arith
+
+  pub erase-bound : 0 < i → size + r + (i - 1) * 4294967332 ≤ 8 + n * 4294967332
+  erase-bound h = omega arith
+
+  pub reinstate-fits : {m : ℕ} → Fits w32 m → n ≤ 256 → Fits w64 (size + r + (4 + m))
+  reinstate-fits f s = omega (arith, f .fits)
+
+  pub reinstate-bound : {m : ℕ} → Fits w32 m → 0 < i → size + r + (4 + m) + (i - 1) * 4294967332 ≤ 8 + n * 4294967332
+  reinstate-bound f h = omega (arith, f .fits)

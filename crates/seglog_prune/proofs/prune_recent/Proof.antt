@@ -5,6 +5,7 @@ use mathlib.Core.List.{List}
 use Prim.Native.Nat.{ℕ, _+_, _-_, _*_, _≤_, _<_}
 use native.Mathlib.Nat.{le-trans}
 use native.Mathlib.Omega.{arith}
+use mir.Facts.{fits-widen}
 use lib.ListN.{length, getD, take, drop, replicate}
 use Rattle.lists.specs.Splice.{splice}
 use Rattle.seglog.specs.declared.Log.{Log}
@@ -155,7 +156,7 @@ array-copy-out-head : tie.Need-array-copy-out-head
 array-copy-out-head c = last-below (few c) (some c)
 
 cast-from : tie.Need-cast-from
-cast-from c = search needs
+cast-from c = fits-widen tt (c .struct-known .given .1 .0)
 
 mul-from : tie.Need-mul-from
 mul-from c = let r = c .before .before .before in slot-fits _ _ (inside r) (small r)

@@ -22,7 +22,7 @@ add-writer-next-pos : tie.Need-add-writer-next-pos
 add-writer-next-pos c = search needs
 
 writer-next-pos-requires : tie.Need-writer-next-pos-requires
-writer-next-pos-requires c κs = search needs
+writer-next-pos-requires c κs = tt
 
 room-of : (c : tie.After-writer-next-pos) → c .writer-next-pos .result ≡ recordRoom (c .before .before .before .args .n)
 unfolding recordRoom

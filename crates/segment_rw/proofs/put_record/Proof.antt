@@ -25,13 +25,13 @@ cast-writer-next-pos : tie.Need-cast-writer-next-pos
 cast-writer-next-pos c = search needs
 
 write-header-requires : tie.Need-write-header-requires
-write-header-requires c κs = search needs
+write-header-requires c κs = tt
 
 add-copy-into : tie.Need-add-copy-into
 add-copy-into c = search needs
 
 copy-into-requires : tie.Need-copy-into-requires
-copy-into-requires c κs = search needs
+copy-into-requires c κs = tt
 
 cast-writer-next-pos-2 : tie.Need-cast-writer-next-pos-2
 cast-writer-next-pos-2 c = search needs
@@ -40,7 +40,7 @@ add-writer-next-pos : tie.Need-add-writer-next-pos
 add-writer-next-pos c = search needs
 
 writer-next-pos-requires : tie.Need-writer-next-pos-requires
-writer-next-pos-requires c κs = search needs
+writer-next-pos-requires c κs = tt
 
 add-zero-fill : tie.Need-add-zero-fill
 add-zero-fill c = search needs
@@ -59,7 +59,7 @@ add-zero-fill-3 c =
     record { fits = omega (arith, s .pre .1, room-of (c .before)) }
 
 zero-fill-requires : tie.Need-zero-fill-requires
-zero-fill-requires c κs = search needs
+zero-fill-requires c κs = tt
 
 same-length : tie.Need-same-length
 same-length c = search needs

@@ -25,7 +25,7 @@ abbrev fitting : tie.After-slice-known2 → tie.Else1
 fitting c = c .before .before .before .before
 
 fits-slot-requires : tie.Need-fits-slot-requires
-fits-slot-requires c κs = search needs
+fits-slot-requires c κs = tt
 
 returns : tie.Need-returns
 returns c = wrote-none _ _ _ _ _ _ (sym (c .before .fits-slot .ensures) ∙ not-true _ (c .if1 .taken))

@@ -8,6 +8,7 @@ use mathlib.Core.List.{List}
 use mathlib.Core.Bool.{true}
 use Prim.Native.Nat.{ℕ, _+_, _-_, _*_, _^_, _≤_, _<_}
 use native.Mathlib.Nat.{le-refl}
+use mir.Facts.{fits-widen}
 use lib.ListN.{length}
 use Rattle.recovery_walk.specs.declared.ImageRow.{ImageRow}
 use Rattle.recovery_walk.specs.declared.Step.the-variants.{Next}
@@ -136,7 +137,7 @@ array-copy-out-row : tie.Need-array-copy-out-row Inv-records μ-records Inv-imag
 array-copy-out-row c = index-below (start-of (c .before) .pre .0 .few) (c .images-test .taken)
 
 cast-from : tie.Need-cast-from Inv-records μ-records Inv-images μ-images
-cast-from c = search needs
+cast-from c = fits-widen tt (c .struct-known .given .1 .0)
 
 mul-from : tie.Need-mul-from Inv-records μ-records Inv-images μ-images
 mul-from c = start-fits _ _ (within-at c) (area-at (start-of (c .before .before .before)))

@@ -7,6 +7,7 @@ use mathlib.Core.Logic.{⊎-elim}
 use mathlib.Core.List.{List}
 use mathlib.Core.Bool.{true, false}
 use Prim.Native.Nat.{ℕ, _+_, _-_, _*_, _^_, _≤_, _<_}
+use mir.Facts.{fits-widen}
 use lib.ListN.{length, take}
 use Rattle.recovery_walk.specs.declared.ImageRow.{ImageRow}
 use Rattle.recovery_walk.specs.declared.Step.the-variants.{Next, Fault}
@@ -211,7 +212,7 @@ gapped-requires : tie.Need-gapped-requires Inv-records μ-records Inv-images μ-
 gapped-requires c κs = tt
 
 cast-from : tie.Need-cast-from Inv-records μ-records Inv-images μ-images
-cast-from c = search needs
+cast-from c = fits-widen tt (c .struct-known .given .1 .0)
 
 mul-from : tie.Need-mul-from Inv-records μ-records Inv-images μ-images
 mul-from c = start-fits _ _ (within-at c) (area-at (start-of (in-of c .before)))
