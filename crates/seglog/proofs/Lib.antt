@@ -1,4 +1,5 @@
 pub mod Bools
+mod Bounds
 pub mod View
 pub mod Slots
 pub mod Fit

@@ -1,8 +1,8 @@
 -- `delta_encode::measure` meets its contract. The loop's invariant: the sums are those of the rows from i on.
 -- The measure is i. Assumes nothing.
-use Prim.Native.Nat.{_≤_, _<_, _+_, _-_, _*_, _^_}
+use Prim.Native.Nat.{_≤_, _+_, _-_, _*_}
 use mathlib.Core.List.{[]}
-use mathlib.Core.Path.{_≡_, refl, ap, sym, _∙_}
+use mathlib.Core.Path.{_≡_, refl, ap}
 use lib.ListN.{length, take, drop}
 use native.Mathlib.Nat.{le-refl}
 use Rattle.keys.proofs.Place.{unmapped}

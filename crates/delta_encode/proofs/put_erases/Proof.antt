@@ -2,7 +2,7 @@
 -- The measure is the number of rows left. Assumes nothing.
 use Prim.Native.Nat.{_≤_, _<_, _+_, _-_, _^_}
 use mathlib.Core.List.{[]}
-use mathlib.Core.Path.{_≡_, refl, ap, sym, subst, _∙_}
+use mathlib.Core.Path.{_≡_, refl, ap, subst}
 use lib.ListN.{length, take, drop}
 use native.Mathlib.Omega.{arith}
 use Rattle.keys.proofs.Place.{unmapped}

@@ -1,9 +1,9 @@
 -- `delta_encode::put_reinstates` meets its contract. The loop's invariant: what the rows from i on give is left to be written, and no
 -- value of theirs lies outside. The measure is the number of rows left. Assumes nothing.
-use Prim.Native.Nat.{_≤_, _<_, _+_, _-_}
+use Prim.Native.Nat.{_≤_, _+_, _-_}
 use mathlib.Core.Bool.{false}
 use mathlib.Core.List.{[], _++_}
-use mathlib.Core.Path.{_≡_, refl, ap, sym, subst, _∙_}
+use mathlib.Core.Path.{_≡_, refl, ap, subst}
 use lib.ListN.{length, take, drop}
 use Rattle.little_endian.specs.LittleEndian.{leBytes}
 use Rattle.keys.specs.Sort.{any}

@@ -1,14 +1,13 @@
 -- `payload::delta_answer` meets its contract: the decoder's answer, field by field.
 -- Assumes nothing.
-use borrow.Author.Needs.{needs}
 use Rattle.payload.proofs.delta_answer.Statement.{statement}
 use Rattle.payload.proofs.delta_answer.Tie as tie
 
 decoding-number-requires : tie.Need-decoding-number-requires
-decoding-number-requires c κs = search needs
+decoding-number-requires c κs = tt
 
 decoding-consumed-requires : tie.Need-decoding-consumed-requires
-decoding-consumed-requires c κs = search needs
+decoding-consumed-requires c κs = tt
 
 returns : tie.Need-returns
 returns c = cc

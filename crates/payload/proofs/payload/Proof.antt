@@ -7,7 +7,7 @@ use Rattle.payload.proofs.payload.Statement.{statement}
 use Rattle.payload.proofs.payload.Tie as tie
 
 row-question-requires : tie.Need-row-question-requires
-row-question-requires c κs = search needs
+row-question-requires c κs = tt
 
 enum-told : tie.Need-enum-told
 enum-told c = search needs

@@ -1,6 +1,6 @@
 -- `payload::payload_delta` meets its contract: a good row's place goes to the decoder, and another row gives its number.
 -- Assumes nothing.
-use mathlib.Core.Path.{_≡_, sym, ap, _∙_}
+use mathlib.Core.Path.{sym, ap, _∙_}
 use mathlib.Core.List.{List}
 use Prim.Native.Nat.{ℕ}
 use borrow.Author.Needs.{needs}
@@ -11,16 +11,16 @@ use Rattle.payload.proofs.payload_delta.Statement.{statement}
 use Rattle.payload.proofs.payload_delta.Tie as tie
 
 row-question-requires : tie.Need-row-question-requires
-row-question-requires c κs = search needs
+row-question-requires c κs = tt
 
 enum-told : tie.Need-enum-told
 enum-told c = search needs
 
 row-number-requires : tie.Need-row-number-requires
-row-number-requires c κs = search needs
+row-number-requires c κs = tt
 
 no-delta-requires : tie.Need-no-delta-requires
-no-delta-requires c κs = search needs
+no-delta-requires c κs = tt
 
 returns : tie.Need-returns
 returns c =
@@ -31,10 +31,10 @@ place-requires : tie.Need-place-requires
 place-requires c κs = row-good _ _ _ _ _ (sym (c .before .before .row-question .ensures) ∙ c .enum-told .given .1)
 
 decode-requires : tie.Need-decode-requires
-decode-requires c κs = search needs
+decode-requires c κs = tt
 
 delta-answer-requires : tie.Need-delta-answer-requires
-delta-answer-requires c κs = search needs
+delta-answer-requires c κs = tt
 
 returns-2 : tie.Need-returns-2
 returns-2 c =

@@ -1,20 +1,19 @@
 -- `payload::row_question` meets its contract: each `return` is a case of the definition.
 -- Assumes nothing.
 use mathlib.Core.Path.{sym, _∙_}
-use borrow.Author.Needs.{needs}
 use borrow.Author.Tests.{not-true, not-false}
 use Rattle.payload.proofs.Row.{row-unshaped, row-outside, row-is-good}
 use Rattle.payload.proofs.row_question.Statement.{statement}
 use Rattle.payload.proofs.row_question.Tie as tie
 
 fits-requires : tie.Need-fits-requires
-fits-requires c κs = search needs
+fits-requires c κs = tt
 
 returns : tie.Need-returns
 returns c = sym (row-unshaped _ _ _ _ _ (sym (c .before .fits2 .ensures) ∙ not-true _ (c .if1 .taken)))
 
 outside-requires : tie.Need-outside-requires
-outside-requires c κs = search needs
+outside-requires c κs = tt
 
 returns-2 : tie.Need-returns-2
 returns-2 c = sym (row-outside _ _ _ _ _ (sym (c .before .before .before .fits2 .ensures) ∙ not-false _ (c .before .before .if1 .left))

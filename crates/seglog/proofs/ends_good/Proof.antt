@@ -1,6 +1,4 @@
 -- `ends_good` meets its contract: each test is its own. Assumes nothing.
-use mathlib.Core.Path.{_≡_, sym}
-use native.Mathlib.Omega.{arith}
 use borrow.Author.Tests.{eq-eqb, ne-eqb}
 use Rattle.seglog.proofs.Bools.{and-2, and-4}
 use Rattle.seglog.proofs.ends_good.Statement.{statement}

@@ -2,11 +2,12 @@
 -- second's: the segments from i on have been seen, and their slots are marked (`Seen`). The measures are the entries left. Assumes nothing.
 use mathlib.Core.Path.{_≡_, refl, sym, _∙_}
 use mathlib.Core.Bool.{true}
-use Prim.Native.Nat.{_-_}
-use native.Mathlib.Omega.{arith}
+use Prim.Native.Nat.{_-_, _≤_}
 use lib.ListN.{length, drop}
 use borrow.Author.Tests.{not-true, not-false}
 use Rattle.seglog.specs.Log.{zerosOf}
+use Rattle.seglog.proofs.Bounds.{first-below, entry-fits, index-fits, entry-inside, entries-end, index-falls}
+use Rattle.seglog.proofs.Bounds.{some-left, none-left, left-falls, left-below, last-below}
 use Rattle.seglog.proofs.View.{unmapped}
 use Rattle.seglog.proofs.Slots.{marksOf}
 use Rattle.seglog.proofs.Fit.{Sized, sized-is, sized-count, fit-sizes, fit-dirty, fit-listed, fit-ends, ends-by}
@@ -39,23 +40,31 @@ Inv-loop2 bytes log unused used₀ later₀ i₀ used later i = Sized log bytes 
 abbrev μ-loop2 : tie.MeasureT-loop2
 μ-loop2 bytes log unused used₀ later₀ i₀ used later i = i
 
+-- an array that came by value has its length
+long-at : (st : tie.Start Inv-loop μ-loop Inv-loop2 μ-loop2) → length (st .args .t1 .segs) ≡ 64
+long-at st = search (needs, unmapped)
+
+-- few entries are listed
+few-at : (l : tie.At-loop2 Inv-loop μ-loop Inv-loop2 μ-loop2) → l .before .before .before .before .before .before .args .t1 .count ≤ 64
+few-at l = sized-count _ _ (l .loop2 .inv .0)
+
 sizes-fit-requires : tie.Need-sizes-fit-requires Inv-loop μ-loop Inv-loop2 μ-loop2
 sizes-fit-requires c κs = tt
 
 returns : tie.Need-returns Inv-loop μ-loop Inv-loop2 μ-loop2
 returns c =
     let a = c .before .before .args in
-    fit-sizes (a .t1) (a .bytes) (search (needs, unmapped)) (sym (c .before .sizes-fit .ensures) ∙ not-true _ (c .if1 .taken))
+    fit-sizes (a .t1) (a .bytes) (long-at (c .before .before)) (sym (c .before .sizes-fit .ensures) ∙ not-true _ (c .if1 .taken))
 
 loop-holds : tie.Need-loop-holds Inv-loop μ-loop Inv-loop2 μ-loop2
 loop-holds c =
-    (sized-is _ _ (search (needs, unmapped)) (sym (c .before .sizes-fit .ensures) ∙ not-false _ (c .if1 .left)), refl)
+    (sized-is _ _ (long-at (c .before .before)) (sym (c .before .sizes-fit .ensures) ∙ not-false _ (c .if1 .left)), refl)
 
 mul-is-zero : tie.Need-mul-is-zero Inv-loop μ-loop Inv-loop2 μ-loop2
-mul-is-zero c = search needs
+mul-is-zero c = entry-fits (c .loop-test .taken)
 
 element-copy-out-is-zero : tie.Need-element-copy-out-is-zero Inv-loop μ-loop Inv-loop2 μ-loop2
-element-copy-out-is-zero c = search needs
+element-copy-out-is-zero c = c .loop-test .taken
 
 is-zero-requires : tie.Need-is-zero-requires Inv-loop μ-loop Inv-loop2 μ-loop2
 is-zero-requires c κs = tt
@@ -65,21 +74,21 @@ returns-2 c =
     let a = c .before .before .before .before .before .before .before .args in
     let l = c .before .before .before .before .loop in
     fit-dirty (a .t1) (a .bytes) (l .inv .0 .long)
-    (zeros-found (a .t1 .segs) _ (l .unused) (l .inv .1) (omega (arith, l .inv .0 .long, c .before .before .before .loop-test))
+    (zeros-found (a .t1 .segs) _ (l .unused) (l .inv .1) (entry-inside (l .inv .0 .long) (c .before .before .before .loop-test .taken))
     (sym (c .before .is-zero .ensures) ∙ not-true _ (c .if2 .taken)))
 
 add-unused : tie.Need-add-unused Inv-loop μ-loop Inv-loop2 μ-loop2
-add-unused c = search needs
+add-unused c = index-fits (c .before .before .before .loop-test .taken)
 
 loop-less : tie.Need-loop-less Inv-loop μ-loop Inv-loop2 μ-loop2
-loop-less c = search needs
+loop-less c = index-falls (c .before .before .before .loop-test .taken)
 
 loop-again : tie.Need-loop-again Inv-loop μ-loop Inv-loop2 μ-loop2
 loop-again c =
     let a = c .before .before .before .before .before .before .before .args in
     let l = c .before .before .before .before .loop in (
       l .inv .0,
-      zeros-turn (a .t1 .segs) _ (l .unused) (l .inv .1) (omega (arith, l .inv .0 .long, c .before .before .before .loop-test))
+      zeros-turn (a .t1 .segs) _ (l .unused) (l .inv .1) (entry-inside (l .inv .0 .long) (c .before .before .before .loop-test .taken))
           (sym (c .before .is-zero .ensures) ∙ not-false _ (c .if2 .left)),
     )
 
@@ -92,24 +101,18 @@ loop2-holds c =
     let a = c .before .before .before .before .before .args in
     let l = c .before .before .loop in (
       l .inv .0,
-      sym (zeros-end (a .t1 .segs) _ (l .unused) (l .inv .1) (omega (arith, l .inv .0 .long))),
+      sym (zeros-end (a .t1 .segs) _ (l .unused) (l .inv .1) (entries-end (l .inv .0 .long) (c .before .loop-test .left))),
       seen-none _ _ _ _ _ _ (l .inv .0 .long) (sized-count _ _ (l .inv .0)) refl,
     )
 
 sub-at : tie.Need-sub-at Inv-loop μ-loop Inv-loop2 μ-loop2
-sub-at c = omega (arith, c .loop2-test)
+sub-at c = some-left (c .loop2-test .taken)
 
 mul-g : tie.Need-mul-g Inv-loop μ-loop Inv-loop2 μ-loop2
-mul-g c =
-    let a = c .before .before .before .before .before .before .before .args in
-    let l = c .before .loop2 in
-    omega (arith, sized-count _ _ (l .inv .0), l .inv .2 .within, c .loop2-test)
+mul-g c = entry-fits (left-below (c .before .loop2 .inv .2 .within) (few-at (c .before)))
 
 element-copy-out-g : tie.Need-element-copy-out-g Inv-loop μ-loop Inv-loop2 μ-loop2
-element-copy-out-g c =
-    let a = c .before .before .before .before .before .before .before .args in
-    let l = c .before .loop2 in
-    omega (arith, sized-count _ _ (l .inv .0), l .inv .2 .within, c .loop2-test)
+element-copy-out-g c = left-below (c .before .loop2 .inv .2 .within) (few-at (c .before))
 
 listed-good-requires : tie.Need-listed-good-requires Inv-loop μ-loop Inv-loop2 μ-loop2
 listed-good-requires c κs = tt
@@ -119,8 +122,7 @@ returns-3 c =
     let a = c .before .before .before .before .before .before .before .before .before .before .args in
     let l = c .before .before .before .before .loop2 in
     fit-listed (a .t1) (a .bytes) (l .inv .0 .long)
-    (seen-bad (a .t1 .k) (a .t1 .c) (a .t1 .count) (a .t1 .segs) (l .used) (l .later) (l .i) (l .inv .2) (sized-count _ _
-    (l .inv .0)) (omega arith) _ (c .before .listed-good .ensures) (not-true _ (c .if3 .taken)))
+    (seen-bad (a .t1 .k) (a .t1 .c) (a .t1 .count) (a .t1 .segs) (l .used) (l .later) (l .i) (l .inv .2) (sized-count _ _ (l .inv .0)) (c .before .before .before .loop2-test .taken) _ (c .before .listed-good .ensures) (not-true _ (c .if3 .taken)))
 
 cast-slot : tie.Need-cast-slot Inv-loop μ-loop Inv-loop2 μ-loop2
 cast-slot c = search needs
@@ -129,35 +131,28 @@ array-read-if4 : tie.Need-array-read-if4 Inv-loop μ-loop Inv-loop2 μ-loop2
 array-read-if4 c =
     let a = c .before .before .before .before .before .before .before .before .before .before .before .args in
     let l = c .before .before .before .before .before .loop2 in
-    omega (
-      arith,
-      seen-slot (a .t1 .k) (a .t1 .c) (a .t1 .count) (a .t1 .segs) (l .used) (l .later) (l .i) (l .inv .2)
-          (sized-count _ _ (l .inv .0)) (omega arith) _ (c .before .before .listed-good .ensures) (not-false _ (c .before .if3 .left))
-          (l .inv .0 .sizes .few-slots),
-    )
+    seen-slot (a .t1 .k) (a .t1 .c) (a .t1 .count) (a .t1 .segs) (l .used) (l .later) (l .i) (l .inv .2)
+    (sized-count _ _ (l .inv .0)) (c .before .before .before .before .loop2-test .taken) _ (c .before .before .listed-good .ensures) (not-false _ (c .before .if3 .left))
+    (l .inv .0 .sizes .few-slots)
 
 returns-4 : tie.Need-returns-4 Inv-loop μ-loop Inv-loop2 μ-loop2
 returns-4 c =
     let a = c .before .before .before .before .before .before .before .before .before .before .before .before .args in
     let l = c .before .before .before .before .before .before .loop2 in
     fit-listed (a .t1) (a .bytes) (l .inv .0 .long)
-    (seen-twice (a .t1 .k) (a .t1 .c) (a .t1 .count) (a .t1 .segs) (l .used) (l .later) (l .i) (l .inv .2) (sized-count _ _
-    (l .inv .0)) (omega arith) _ (c .before .before .before .listed-good .ensures) (not-false _ (c .before .before .if3 .left))
+    (seen-twice (a .t1 .k) (a .t1 .c) (a .t1 .count) (a .t1 .segs) (l .used) (l .later) (l .i) (l .inv .2) (sized-count _ _ (l .inv .0)) (c .before .before .before .before .before .loop2-test .taken) _ (c .before .before .before .listed-good .ensures) (not-false _ (c .before .before .if3 .left))
     (l .inv .0 .sizes .few-slots) (c .if4 .taken))
 
 array-write-used : tie.Need-array-write-used Inv-loop μ-loop Inv-loop2 μ-loop2
 array-write-used c =
     let a = c .before .before .before .before .before .before .before .before .before .before .before .before .args in
     let l = c .before .before .before .before .before .before .loop2 in
-    omega (
-      arith,
-      seen-slot (a .t1 .k) (a .t1 .c) (a .t1 .count) (a .t1 .segs) (l .used) (l .later) (l .i) (l .inv .2)
-          (sized-count _ _ (l .inv .0)) (omega arith) _ (c .before .before .before .listed-good .ensures) (not-false _
-          (c .before .before .if3 .left)) (l .inv .0 .sizes .few-slots),
-    )
+    seen-slot (a .t1 .k) (a .t1 .c) (a .t1 .count) (a .t1 .segs) (l .used) (l .later) (l .i) (l .inv .2)
+    (sized-count _ _ (l .inv .0)) (c .before .before .before .before .before .loop2-test .taken) _ (c .before .before .before .listed-good .ensures) (not-false _
+    (c .before .before .if3 .left)) (l .inv .0 .sizes .few-slots)
 
 loop2-less : tie.Need-loop2-less Inv-loop μ-loop Inv-loop2 μ-loop2
-loop2-less c = search needs
+loop2-less c = left-falls (c .before .before .before .before .before .loop2-test .taken)
 
 loop2-again : tie.Need-loop2-again Inv-loop μ-loop Inv-loop2 μ-loop2
 loop2-again c =
@@ -166,7 +161,7 @@ loop2-again c =
       l .inv .0,
       l .inv .1,
       seen-more (a .t1 .k) (a .t1 .c) (a .t1 .count) (a .t1 .segs) (l .used) (l .later) (l .i) (l .inv .2)
-          (sized-count _ _ (l .inv .0)) (omega arith) _ (c .before .before .before .listed-good .ensures) (not-false _
+          (sized-count _ _ (l .inv .0)) (c .before .before .before .before .before .loop2-test .taken) _ (c .before .before .before .listed-good .ensures) (not-false _
           (c .before .before .if3 .left)) (l .inv .0 .sizes .few-slots) (c .if4 .left),
     )
 
@@ -174,20 +169,16 @@ last-of-requires : tie.Need-last-of-requires Inv-loop μ-loop Inv-loop2 μ-loop2
 last-of-requires c κs = tt
 
 element-copy-out-ends-good : tie.Need-element-copy-out-ends-good Inv-loop μ-loop Inv-loop2 μ-loop2
-element-copy-out-ends-good c = search needs
+element-copy-out-ends-good c = first-below
 
 mul-ends-good : tie.Need-mul-ends-good Inv-loop μ-loop Inv-loop2 μ-loop2
 mul-ends-good c =
-    let a = c .before .before .before .before .before .before .before .before .before .args in
-    let l = c .before .before .before .loop2 in
-    omega (arith, sized-count _ _ (l .inv .0), c .before .last-of .ensures)
+    entry-fits (last-below (few-at (c .before .before .before)) (c .before .last-of .ensures))
 
 element-copy-out-ends-good-2 :
     tie.Need-element-copy-out-ends-good-2 Inv-loop μ-loop Inv-loop2 μ-loop2
 element-copy-out-ends-good-2 c =
-    let a = c .before .before .before .before .before .before .before .before .before .args in
-    let l = c .before .before .before .loop2 in
-    omega (arith, sized-count _ _ (l .inv .0), c .before .last-of .ensures)
+    last-below (few-at (c .before .before .before)) (c .before .last-of .ensures)
 
 ends-good-requires : tie.Need-ends-good-requires Inv-loop μ-loop Inv-loop2 μ-loop2
 ends-good-requires c κs = tt
@@ -197,7 +188,7 @@ returns-5 c =
     let a = c .before .before .before .before .before .before .before .before .before .before .before .args in
     let l = c .before .before .before .before .before .loop2 in
     fit-ends (a .t1) (a .bytes) _ (l .inv .0) (l .inv .1)
-    (seen-all (a .t1 .k) (a .t1 .c) (a .t1 .count) (a .t1 .segs) (l .used) (l .later) (l .i) (l .inv .2) (omega arith))
+    (seen-all (a .t1 .k) (a .t1 .c) (a .t1 .count) (a .t1 .segs) (l .used) (l .later) (l .i) (l .inv .2) (none-left (c .before .before .before .before .loop2-test .left)))
     (c .ends-good .ensures ∙ ends-by (a .t1) (a .bytes) _ (l .inv .0) (c .before .before .before .last-of .ensures))
 
 pub fits-spec : {M : Type 1} → statement M

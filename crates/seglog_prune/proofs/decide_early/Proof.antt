@@ -5,7 +5,6 @@ use mathlib.Core.Bool.{true}
 use borrow.Author.Tests.{not-true, not-false}
 use Rattle.seglog.specs.Log.{fittingOf}
 use Rattle.seglog_prune.proofs.Decide.{early-2, early-empty, early-same, early-8, early-9, early-onward}
-use borrow.Author.Needs.{needs}
 use Rattle.seglog_prune.proofs.decide_early.Statement.{statement}
 use Rattle.seglog_prune.proofs.decide_early.Tie as tie
 

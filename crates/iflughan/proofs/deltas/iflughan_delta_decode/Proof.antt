@@ -1,22 +1,21 @@
 -- `iflughan::iflughan_delta_decode` meets its contract: `decode`'s, with its answer as numbers and its rows as they cross.
 -- Assumes nothing.
 use mathlib.Core.Path.{ap, _∙_}
-use borrow.Author.Needs.{needs}
 use Rattle.iflughan.specs.Deltas.{decodedDelta}
 use Rattle.iflughan.proofs.deltas.iflughan_delta_decode.Statement.{statement}
 use Rattle.iflughan.proofs.deltas.iflughan_delta_decode.Tie as tie
 
 decode-requires : tie.Need-decode-requires
-decode-requires c κs = search needs
+decode-requires c κs = tt
 
 decoding-number-requires : tie.Need-decoding-number-requires
-decoding-number-requires c κs = search needs
+decoding-number-requires c κs = tt
 
 decoding-consumed-requires : tie.Need-decoding-consumed-requires
-decoding-consumed-requires c κs = search needs
+decoding-consumed-requires c κs = tt
 
 table-out-requires : tie.Need-table-out-requires
-table-out-requires c κs = search needs
+table-out-requires c κs = tt
 
 returns : tie.Need-returns
 unfolding decodedDelta

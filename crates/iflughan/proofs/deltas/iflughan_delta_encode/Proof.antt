@@ -9,13 +9,13 @@ use Rattle.iflughan.proofs.deltas.iflughan_delta_encode.Statement.{stat
 use Rattle.iflughan.proofs.deltas.iflughan_delta_encode.Tie as tie
 
 table-in-requires : tie.Need-table-in-requires
-table-in-requires c κs = search needs
+table-in-requires c κs = tt
 
 encode-requires : tie.Need-encode-requires
-encode-requires c κs = search needs
+encode-requires c κs = tt
 
 written-delta-requires : tie.Need-written-delta-requires
-written-delta-requires c κs = search needs
+written-delta-requires c κs = tt
 
 same-length : tie.Need-same-length
 same-length c = search needs

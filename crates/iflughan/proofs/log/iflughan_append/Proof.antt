@@ -7,10 +7,10 @@ use Rattle.iflughan.proofs.log.iflughan_append.Statement.{statement}
 use Rattle.iflughan.proofs.log.iflughan_append.Tie as tie
 
 append-requires : tie.Need-append-requires
-append-requires c κs = search needs
+append-requires c κs = tt
 
 appended-out-requires : tie.Need-appended-out-requires
-appended-out-requires c κs = search needs
+appended-out-requires c κs = tt
 
 same-length : tie.Need-same-length
 same-length c = search needs

@@ -7,10 +7,10 @@ use Rattle.iflughan.proofs.log.iflughan_prune_oldest.Statement.{stateme
 use Rattle.iflughan.proofs.log.iflughan_prune_oldest.Tie as tie
 
 prune-oldest-requires : tie.Need-prune-oldest-requires
-prune-oldest-requires c κs = search needs
+prune-oldest-requires c κs = tt
 
 logged-out-requires : tie.Need-logged-out-requires
-logged-out-requires c κs = search needs
+logged-out-requires c κs = tt
 
 same-length : tie.Need-same-length
 same-length c = search needs

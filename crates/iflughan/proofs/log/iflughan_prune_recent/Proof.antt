@@ -7,10 +7,10 @@ use Rattle.iflughan.proofs.log.iflughan_prune_recent.Statement.{stateme
 use Rattle.iflughan.proofs.log.iflughan_prune_recent.Tie as tie
 
 prune-recent-requires : tie.Need-prune-recent-requires
-prune-recent-requires c κs = search needs
+prune-recent-requires c κs = tt
 
 logged-out-requires : tie.Need-logged-out-requires
-logged-out-requires c κs = search needs
+logged-out-requires c κs = tt
 
 same-length : tie.Need-same-length
 same-length c = search needs

@@ -1,16 +1,15 @@
 -- `iflughan::iflughan_name_parse` meets its contract: `parse`'s, with its answer as numbers.
 -- Assumes nothing.
 use mathlib.Core.Path.{ap, _∙_}
-use borrow.Author.Needs.{needs}
 use Rattle.iflughan.specs.Names.{parsedName}
 use Rattle.iflughan.proofs.names.iflughan_name_parse.Statement.{statement}
 use Rattle.iflughan.proofs.names.iflughan_name_parse.Tie as tie
 
 parse-requires : tie.Need-parse-requires
-parse-requires c κs = search needs
+parse-requires c κs = tt
 
 parsed-name-requires : tie.Need-parsed-name-requires
-parsed-name-requires c κs = search needs
+parsed-name-requires c κs = tt
 
 returns : tie.Need-returns
 returns c = c .parsed-name .ensures ∙ ap parsedName (c .before .parse .ensures)

@@ -7,10 +7,10 @@ use Rattle.iflughan.proofs.names.iflughan_name_write.Statement.{stateme
 use Rattle.iflughan.proofs.names.iflughan_name_write.Tie as tie
 
 format-requires : tie.Need-format-requires
-format-requires c κs = search needs
+format-requires c κs = tt
 
 written-name-requires : tie.Need-written-name-requires
-written-name-requires c κs = search needs
+written-name-requires c κs = tt
 
 same-length : tie.Need-same-length
 same-length c = search needs

@@ -1,6 +1,5 @@
 -- `walk::refusal` meets its contract: the start state, and the entries of no segment.
 -- Assumes nothing.
-use borrow.Author.Needs.{needs}
 use Rattle.recovery_walk.proofs.walk.refusal.Statement.{statement}
 use Rattle.recovery_walk.proofs.walk.refusal.Tie as tie
 

@@ -1,7 +1,6 @@
 -- `walk::settled` meets its contract: one test.
 -- Assumes nothing.
 use borrow.Author.Tests.{eq-eqb, ne-eqb}
-use borrow.Author.Needs.{needs}
 use Rattle.recovery_walk.proofs.walk.settled.Statement.{statement}
 use Rattle.recovery_walk.proofs.walk.settled.Tie as tie
 
