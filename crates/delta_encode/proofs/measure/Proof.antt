@@ -9,8 +9,10 @@ use Rattle.keys.proofs.Place.{unmapped}
 use Rattle.delta.specs.Table.{erased, rowAt}
 use Rattle.delta_encode.specs.Bytes.{erases, reinstates, sizeOf, Sized}
 use Rattle.delta_encode.proofs.Bounds.{rows-within, widened, some-left, none-left, left-falls, left-within, last-below, last-fits}
-use Rattle.delta_encode.proofs.Bounds.{count-start, erases-fit, reinstates-fit, erase-counted, reinstate-counted, none-more, one-more}
-use Rattle.delta_encode.proofs.Bounds.{erase-size, reinstate-size, length-fits, erase-fits, erase-bound, reinstate-fits, reinstate-bound}
+use Rattle.delta_encode.proofs.Bounds.{count-start, erases-fit, reinstates-fit, erase-counted, reinstate-counted, none-more}
+use Rattle.delta_encode.proofs.Bounds.{one-more}
+use Rattle.delta_encode.proofs.Bounds.{erase-size, reinstate-size, length-fits, erase-fits, erase-bound, reinstate-fits}
+use Rattle.delta_encode.proofs.Bounds.{reinstate-bound}
 use Rattle.delta_encode.proofs.Writes.{sized-end, sized-before}
 use borrow.Author.Needs.{needs}
 use Rattle.delta_encode.proofs.measure.Statement.{statement}
@@ -48,7 +50,9 @@ add-size c =
     erase-fits (b .loop .size) (b .loop .i) _ (b .loop .inv .3) (c .key-size .ensures .0) (b .before .pre)
 
 add-reinstates : tie.Need-add-reinstates Inv-loop μ-loop
-add-reinstates c = let b = c .before .before .before .before .before in reinstates-fit (b .loop .erases) (b .loop .reinstates) (b .loop .i) (b .loop .inv .2) (b .before .pre)
+add-reinstates c =
+    let b = c .before .before .before .before .before in
+    reinstates-fit (b .loop .erases) (b .loop .reinstates) (b .loop .i) (b .loop .inv .2) (b .before .pre)
 
 cast-size : tie.Need-cast-size Inv-loop μ-loop
 cast-size c = widened (c .struct-known .given .1 .1 .1 .0)
@@ -59,7 +63,8 @@ add-size-2 c = length-fits (c .struct-known .given .1 .1 .1 .0)
 add-size-3 : tie.Need-add-size-3 Inv-loop μ-loop
 add-size-3 c =
     let b = c .before .before .before .before .before .before in
-    reinstate-fits (b .loop .size) (b .loop .i) _ (b .loop .inv .3) (c .before .before .key-size .ensures .0) (c .struct-known .given .1 .1 .1 .0)
+    reinstate-fits (b .loop .size) (b .loop .i) _ (b .loop .inv .3) (c .before .before .key-size .ensures .0)
+    (c .struct-known .given .1 .1 .1 .0)
     (b .before .pre)
 
 loop-less : tie.Need-loop-less Inv-loop μ-loop
@@ -76,19 +81,24 @@ loop-again c =
     let e0 : erases row ≡ 0 = rw y in
     let e1 : reinstates row ≡ 1 = rw y in
     let e2 : sizeOf row ≡ 36 + row .length = rw y in
-    let s = sized-before (a .rows) (a .count) (b .loop .i) (rows-within (b .before .pre) (b .loop .inv .1)) (i .loop-test .taken) (b .loop .inv .0) (erased [])
-    (b .loop .erases) (b .loop .reinstates) (b .loop .size) (b .loop .erases) (b .loop .reinstates + 1) (b .loop .size + c .before .before .key-size .result + (4 + row .length))
+    let s = sized-before (a .rows) (a .count) (b .loop .i) (rows-within (b .before .pre) (b .loop .inv .1)) (i .loop-test .taken)
+    (b .loop .inv .0) (erased [])
+    (b .loop .erases) (b .loop .reinstates) (b .loop .size) (b .loop .erases) (b .loop .reinstates + 1)
+    (b .loop .size + c .before .before .key-size .result + (4 + row .length))
     (c .before .before .key-size .ensures .1) (none-more (b .loop .erases) e0) (one-more (b .loop .reinstates) e1)
     (reinstate-size (b .loop .size) (row .length) h e2) (b .loop .inv .4) in (
       left-within (b .loop .inv .0),
       b .loop .inv .1,
       reinstate-counted (b .loop .erases) (b .loop .reinstates) (i .loop-test .taken) (b .loop .inv .2),
-      reinstate-bound (b .loop .size) (b .loop .i) (a .count) (b .loop .inv .3) h (c .struct-known .given .1 .1 .1 .0) (i .loop-test .taken),
+      reinstate-bound (b .loop .size) (b .loop .i) (a .count) (b .loop .inv .3) h (c .struct-known .given .1 .1 .1 .0)
+          (i .loop-test .taken),
       s,
     )
 
 add-erases : tie.Need-add-erases Inv-loop μ-loop
-add-erases c = let b = c .before .before .before .before .before in erases-fit (b .loop .erases) (b .loop .reinstates) (b .loop .i) (b .loop .inv .2) (b .before .pre)
+add-erases c =
+    let b = c .before .before .before .before .before in
+    erases-fit (b .loop .erases) (b .loop .reinstates) (b .loop .i) (b .loop .inv .2) (b .before .pre)
 
 loop-less-2 : tie.Need-loop-less-2 Inv-loop μ-loop
 loop-less-2 c = left-falls (c .before .before .before .before .loop-test .taken)
@@ -104,8 +114,10 @@ loop-again-2 c =
     let e0 : erases row ≡ 1 = rw y in
     let e1 : reinstates row ≡ 0 = rw y in
     let e2 : sizeOf row ≡ 32 = rw y in
-    let s = sized-before (a .rows) (a .count) (b .loop .i) (rows-within (b .before .pre) (b .loop .inv .1)) (i .loop-test .taken) (b .loop .inv .0) (erased [])
-    (b .loop .erases) (b .loop .reinstates) (b .loop .size) (b .loop .erases + 1) (b .loop .reinstates) (b .loop .size + c .before .key-size .result)
+    let s = sized-before (a .rows) (a .count) (b .loop .i) (rows-within (b .before .pre) (b .loop .inv .1)) (i .loop-test .taken)
+    (b .loop .inv .0) (erased [])
+    (b .loop .erases) (b .loop .reinstates) (b .loop .size) (b .loop .erases + 1) (b .loop .reinstates)
+    (b .loop .size + c .before .key-size .result)
     (c .before .key-size .ensures .1) (one-more (b .loop .erases) e0) (none-more (b .loop .reinstates) e1)
     (erase-size (b .loop .size) h e2) (b .loop .inv .4) in (
       left-within (b .loop .inv .0),

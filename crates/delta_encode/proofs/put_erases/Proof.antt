@@ -9,7 +9,8 @@ use Rattle.keys.proofs.Place.{unmapped}
 use Rattle.delta.specs.Table.{erased, rowsOf, rowAt}
 use Rattle.delta_encode.specs.Bytes.{concat, eraseBytes}
 use Rattle.delta_encode.proofs.Bounds.{row-below, row-fits, index-fits, index-up, index-falls, rows-within, key-end, key-fits}
-use Rattle.delta_encode.proofs.Writes.{Writing, writing-start, writing-step, writing-room, writing-end, concat-end, erase-absent, erase-present}
+use Rattle.delta_encode.proofs.Writes.{Writing, writing-start, writing-step, writing-room, writing-end, concat-end, erase-absent}
+use Rattle.delta_encode.proofs.Writes.{erase-present}
 use borrow.Author.Needs.{needs, zero≤}
 use Rattle.delta_encode.proofs.put_erases.Statement.{statement}
 use Rattle.delta_encode.proofs.put_erases.Tie as tie
@@ -85,7 +86,9 @@ add-p c =
     key-fits (b .loop .p) _ k h r (b .loop .inv .2 .long) (bytes-at (b .before .before))
 
 add-i-2 : tie.Need-add-i-2 Inv-loop μ-loop
-add-i-2 c = index-fits (c .before .before .before .before .before .before .before .before .before .loop-test .taken) (c .before .before .before .before .before .before .before .before .before .before .before .before .pre .0)
+add-i-2 c =
+    index-fits (c .before .before .before .before .before .before .before .before .before .loop-test .taken)
+    (c .before .before .before .before .before .before .before .before .before .before .before .before .pre .0)
 
 loop-less-2 : tie.Need-loop-less-2 Inv-loop μ-loop
 loop-less-2 c = index-falls (c .before .before .before .before .before .before .before .before .before .loop-test .taken)
@@ -105,7 +108,8 @@ loop-again-2 c =
           (concat eraseBytes (drop (b .loop .i) (rowsOf (a .t1)))) (b .loop .inv .2)
           (rowAt (a .t1) (b .loop .i) .key) (concat eraseBytes (drop (b .loop .i + 1) (rowsOf (a .t1)))) (o .copy-into .last .0)
           (b .loop .p + n .key-size .result)
-          (erase-absent (a .t1 .rows) (a .t1 .count) (b .loop .i) (listed b) (erased []) (i .loop-test .taken) (n .before .before .if1 .left))
+          (erase-absent (a .t1 .rows) (a .t1 .count) (b .loop .i) (listed b) (erased []) (i .loop-test .taken)
+          (n .before .before .if1 .left))
           (o .copy-into .ensures) (key-end (b .loop .p) k h),
     )
 

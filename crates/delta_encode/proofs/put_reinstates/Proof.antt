@@ -11,7 +11,8 @@ use Rattle.keys.proofs.Place.{unmapped}
 use Rattle.delta.specs.Table.{erased, rowsOf, rowAt}
 use Rattle.delta_encode.specs.Bytes.{concat, reinstateBytes, valueOf, outside}
 use Rattle.delta_encode.proofs.Bounds.{row-below, row-fits, index-fits, index-up, index-falls, rows-within, piece-room, piece-end}
-use Rattle.delta_encode.proofs.Writes.{Writing, writing-start, writing-step, writing-room, writing-end, concat-end, reinstate-present, reinstate-absent, inside, present-length}
+use Rattle.delta_encode.proofs.Writes.{Writing, writing-start, writing-step, writing-room, writing-end, concat-end}
+use Rattle.delta_encode.proofs.Writes.{reinstate-present, reinstate-absent, inside, present-length}
 use borrow.Author.Needs.{needs, zero≤}
 use Rattle.delta_encode.proofs.put_reinstates.Statement.{statement}
 use Rattle.delta_encode.proofs.put_reinstates.Tie as tie
@@ -52,7 +53,8 @@ put-row-requires c κs =
     let a = b .before .before .before .args in
     let row = rowAt (a .t1) (b .loop .i) in
     let y = c .before .before .before .if1 .taken in
-    let n = inside (a .t1 .rows) (a .t1 .count) (b .loop .i) (listed b) (erased []) (i .loop-test .taken) (a .values .now) (b .loop .inv .2) in
+    let n = inside (a .t1 .rows) (a .t1 .count) (b .loop .i) (listed b) (erased []) (i .loop-test .taken) (a .values .now)
+    (b .loop .inv .2) in
     let k = present-length (a .values .now) row (c .before .key-size .ensures .1) (n .1 y) in
     let r = writing-room (a .out .now) (a .at) (concat (reinstateBytes (a .values .now)) (rowsOf (a .t1))) (b .loop .out) (b .loop .p)
     (concat (reinstateBytes (a .values .now)) (drop (b .loop .i) (rowsOf (a .t1)))) (b .loop .inv .3)
@@ -62,7 +64,9 @@ put-row-requires c κs =
     (piece-room (b .loop .p) _ r k, n .1 y)
 
 add-i : tie.Need-add-i Inv-loop μ-loop
-add-i c = index-fits (c .before .before .before .before .before .before .before .before .loop-test .taken) (c .before .before .before .before .before .before .before .before .before .before .before .before .pre .0)
+add-i c =
+    index-fits (c .before .before .before .before .before .before .before .before .loop-test .taken)
+    (c .before .before .before .before .before .before .before .before .before .before .before .before .pre .0)
 
 loop-less : tie.Need-loop-less Inv-loop μ-loop
 loop-less c = index-falls (c .before .before .before .before .before .before .before .before .loop-test .taken)
@@ -76,7 +80,8 @@ loop-again c =
     let a = b .before .before .before .args in
     let row = rowAt (a .t1) (b .loop .i) in
     let y = n .before .before .if1 .taken in
-    let s = inside (a .t1 .rows) (a .t1 .count) (b .loop .i) (listed b) (erased []) (i .loop-test .taken) (a .values .now) (b .loop .inv .2) in
+    let s = inside (a .t1 .rows) (a .t1 .count) (b .loop .i) (listed b) (erased []) (i .loop-test .taken) (a .values .now)
+    (b .loop .inv .2) in
     let k = present-length (a .values .now) row (n .key-size .ensures .1) (s .1 y) in
     let q : w .put-row .result ≡ b .loop .p + (36 + row .length) = w .put-row .ensures .0 in (
       index-up (i .loop-test .taken),
@@ -101,7 +106,8 @@ loop-again-2 c =
     let i = c .before .before in
     let b = i .before in
     let a = b .before .before .before .args in
-    let s = inside (a .t1 .rows) (a .t1 .count) (b .loop .i) (listed b) (erased []) (i .loop-test .taken) (a .values .now) (b .loop .inv .2) in (
+    let s = inside (a .t1 .rows) (a .t1 .count) (b .loop .i) (listed b) (erased []) (i .loop-test .taken) (a .values .now)
+    (b .loop .inv .2) in (
       index-up (i .loop-test .taken),
       b .loop .inv .1,
       s .0,

@@ -31,16 +31,22 @@ copy-into-requires : tie.Need-copy-into-requires
 copy-into-requires c κs = tt
 
 add-write-u32 : tie.Need-add-write-u32
-add-write-u32 c = let st = c .before .before .before .before .before .before .before .before in number-fits (st .args .at) (st .args .size) (st .pre .0) (bytes-at st)
+add-write-u32 c =
+    let st = c .before .before .before .before .before .before .before .before in
+    number-fits (st .args .at) (st .args .size) (st .pre .0) (bytes-at st)
 
 write-u32-requires : tie.Need-write-u32-requires
 write-u32-requires c κs = tt
 
 add-copy-into : tie.Need-add-copy-into
-add-copy-into c = let st = c .before .before .before .before .before .before .before .before .before .before .before .before in value-fits (st .args .at) (st .args .size) (st .pre .0) (bytes-at st)
+add-copy-into c =
+    let st = c .before .before .before .before .before .before .before .before .before .before .before .before in
+    value-fits (st .args .at) (st .args .size) (st .pre .0) (bytes-at st)
 
 add-copy-into-2 : tie.Need-add-copy-into-2
-add-copy-into-2 c = let st = c .before .before .before .before .before .before .before .before .before .before .before .before in part-fits (st .args .from) (st .args .size) (st .pre .1) (values-at st)
+add-copy-into-2 c =
+    let st = c .before .before .before .before .before .before .before .before .before .before .before .before in
+    part-fits (st .args .from) (st .args .size) (st .pre .1) (values-at st)
 
 sub-copy-into : tie.Need-sub-copy-into
 sub-copy-into c = part-first _ _
@@ -55,10 +61,16 @@ copy-into-requires-2 : tie.Need-copy-into-requires-2
 copy-into-requires-2 c κs = tt
 
 add-result : tie.Need-add-result
-add-result c = let st = c .before .before .before .before .before .before .before .before .before .before .before .before .before .before .before .before in value-fits (st .args .at) (st .args .size) (st .pre .0) (bytes-at st)
+add-result c =
+    let front = c .before .before .before .before .before .before .before .before in
+    let st = front .before .before .before .before .before .before .before .before in
+    value-fits (st .args .at) (st .args .size) (st .pre .0) (bytes-at st)
 
 add-result-2 : tie.Need-add-result-2
-add-result-2 c = let st = c .before .before .before .before .before .before .before .before .before .before .before .before .before .before .before .before in end-fits (st .args .at) (st .args .size) (st .pre .0) (bytes-at st)
+add-result-2 c =
+    let front = c .before .before .before .before .before .before .before .before in
+    let st = front .before .before .before .before .before .before .before .before in
+    end-fits (st .args .at) (st .args .size) (st .pre .0) (bytes-at st)
 
 same-length : tie.Need-same-length
 same-length c = search needs

@@ -122,7 +122,9 @@ returns-3 c =
     let a = c .before .before .before .before .before .before .before .before .before .before .args in
     let l = c .before .before .before .before .loop2 in
     fit-listed (a .t1) (a .bytes) (l .inv .0 .long)
-    (seen-bad (a .t1 .k) (a .t1 .c) (a .t1 .count) (a .t1 .segs) (l .used) (l .later) (l .i) (l .inv .2) (sized-count _ _ (l .inv .0)) (c .before .before .before .loop2-test .taken) _ (c .before .listed-good .ensures) (not-true _ (c .if3 .taken)))
+    (seen-bad (a .t1 .k) (a .t1 .c) (a .t1 .count) (a .t1 .segs) (l .used) (l .later) (l .i) (l .inv .2)
+    (sized-count _ _ (l .inv .0)) (c .before .before .before .loop2-test .taken) _ (c .before .listed-good .ensures)
+    (not-true _ (c .if3 .taken)))
 
 cast-slot : tie.Need-cast-slot Inv-loop μ-loop Inv-loop2 μ-loop2
 cast-slot c = search needs
@@ -132,7 +134,8 @@ array-read-if4 c =
     let a = c .before .before .before .before .before .before .before .before .before .before .before .args in
     let l = c .before .before .before .before .before .loop2 in
     seen-slot (a .t1 .k) (a .t1 .c) (a .t1 .count) (a .t1 .segs) (l .used) (l .later) (l .i) (l .inv .2)
-    (sized-count _ _ (l .inv .0)) (c .before .before .before .before .loop2-test .taken) _ (c .before .before .listed-good .ensures) (not-false _ (c .before .if3 .left))
+    (sized-count _ _ (l .inv .0)) (c .before .before .before .before .loop2-test .taken) _ (c .before .before .listed-good .ensures)
+    (not-false _ (c .before .if3 .left))
     (l .inv .0 .sizes .few-slots)
 
 returns-4 : tie.Need-returns-4 Inv-loop μ-loop Inv-loop2 μ-loop2
@@ -140,7 +143,9 @@ returns-4 c =
     let a = c .before .before .before .before .before .before .before .before .before .before .before .before .args in
     let l = c .before .before .before .before .before .before .loop2 in
     fit-listed (a .t1) (a .bytes) (l .inv .0 .long)
-    (seen-twice (a .t1 .k) (a .t1 .c) (a .t1 .count) (a .t1 .segs) (l .used) (l .later) (l .i) (l .inv .2) (sized-count _ _ (l .inv .0)) (c .before .before .before .before .before .loop2-test .taken) _ (c .before .before .before .listed-good .ensures) (not-false _ (c .before .before .if3 .left))
+    (seen-twice (a .t1 .k) (a .t1 .c) (a .t1 .count) (a .t1 .segs) (l .used) (l .later) (l .i) (l .inv .2)
+    (sized-count _ _ (l .inv .0)) (c .before .before .before .before .before .loop2-test .taken) _
+    (c .before .before .before .listed-good .ensures) (not-false _ (c .before .before .if3 .left))
     (l .inv .0 .sizes .few-slots) (c .if4 .taken))
 
 array-write-used : tie.Need-array-write-used Inv-loop μ-loop Inv-loop2 μ-loop2
@@ -148,7 +153,8 @@ array-write-used c =
     let a = c .before .before .before .before .before .before .before .before .before .before .before .before .args in
     let l = c .before .before .before .before .before .before .loop2 in
     seen-slot (a .t1 .k) (a .t1 .c) (a .t1 .count) (a .t1 .segs) (l .used) (l .later) (l .i) (l .inv .2)
-    (sized-count _ _ (l .inv .0)) (c .before .before .before .before .before .loop2-test .taken) _ (c .before .before .before .listed-good .ensures) (not-false _
+    (sized-count _ _ (l .inv .0)) (c .before .before .before .before .before .loop2-test .taken) _
+    (c .before .before .before .listed-good .ensures) (not-false _
     (c .before .before .if3 .left)) (l .inv .0 .sizes .few-slots)
 
 loop2-less : tie.Need-loop2-less Inv-loop μ-loop Inv-loop2 μ-loop2
@@ -161,7 +167,8 @@ loop2-again c =
       l .inv .0,
       l .inv .1,
       seen-more (a .t1 .k) (a .t1 .c) (a .t1 .count) (a .t1 .segs) (l .used) (l .later) (l .i) (l .inv .2)
-          (sized-count _ _ (l .inv .0)) (c .before .before .before .before .before .loop2-test .taken) _ (c .before .before .before .listed-good .ensures) (not-false _
+          (sized-count _ _ (l .inv .0)) (c .before .before .before .before .before .loop2-test .taken) _
+          (c .before .before .before .listed-good .ensures) (not-false _
           (c .before .before .if3 .left)) (l .inv .0 .sizes .few-slots) (c .if4 .left),
     )
 
@@ -188,7 +195,8 @@ returns-5 c =
     let a = c .before .before .before .before .before .before .before .before .before .before .before .args in
     let l = c .before .before .before .before .before .loop2 in
     fit-ends (a .t1) (a .bytes) _ (l .inv .0) (l .inv .1)
-    (seen-all (a .t1 .k) (a .t1 .c) (a .t1 .count) (a .t1 .segs) (l .used) (l .later) (l .i) (l .inv .2) (none-left (c .before .before .before .before .loop2-test .left)))
+    (seen-all (a .t1 .k) (a .t1 .c) (a .t1 .count) (a .t1 .segs) (l .used) (l .later) (l .i) (l .inv .2)
+    (none-left (c .before .before .before .before .loop2-test .left)))
     (c .ends-good .ensures ∙ ends-by (a .t1) (a .bytes) _ (l .inv .0) (c .before .before .before .last-of .ensures))
 
 pub fits-spec : {M : Type 1} → statement M

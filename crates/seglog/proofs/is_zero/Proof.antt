@@ -26,7 +26,9 @@ same-requires-5 : tie.Need-same-requires-5
 same-requires-5 c κs = tt
 
 returns : tie.Need-returns
-returns c = and-5 (c .before .before .before .before .before .same .ensures) (c .before .before .before .same2 .ensures) (c .before .before .same3 .ensures) (c .before .same4 .ensures) (c .same5 .ensures)
+returns c =
+    and-5 (c .before .before .before .before .before .same .ensures) (c .before .before .before .same2 .ensures)
+    (c .before .before .same3 .ensures) (c .before .same4 .ensures) (c .same5 .ensures)
 
 pub is-zero-spec : {M : Type 1} → statement M
 is-zero-spec =

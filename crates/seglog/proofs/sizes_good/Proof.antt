@@ -24,7 +24,10 @@ at-most-requires-5 c κs = tt
 
 returns : tie.Need-returns
 unfolding sizesOf
-returns c = and-6 (c .before .before .before .before .before .at-most .ensures) (c .before .before .before .before .at-most2 .ensures) (c .before .before .before .same .ensures) (c .before .before .at-most3 .ensures) (c .before .at-most4 .ensures) (c .at-most5 .ensures)
+returns c =
+    and-6 (c .before .before .before .before .before .at-most .ensures) (c .before .before .before .before .at-most2 .ensures)
+    (c .before .before .before .same .ensures) (c .before .before .at-most3 .ensures) (c .before .at-most4 .ensures)
+    (c .at-most5 .ensures)
 
 pub sizes-good-spec : {M : Type 1} → statement M
 sizes-good-spec =

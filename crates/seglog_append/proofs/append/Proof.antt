@@ -97,7 +97,8 @@ returns c =
     let st = c .before .before .before .before .before in
     let a = st .args in
     let why =
-    way-2 (a .t1) (a .area .now) (a .payload .now) (long-at st) (sym (c .before .before .fits2 .ensures) ∙ not-true _ (c .before .if1 .taken)) in
+    way-2 (a .t1) (a .area .now) (a .payload .now) (long-at st)
+    (sym (c .before .before .fits2 .ensures) ∙ not-true _ (c .before .if1 .taken)) in
     (refused-answer (a .t1) 2 _ _ why (c .refuse .ensures), refused-area (a .area .now) 2 _ why)
 
 refuse-requires-2 : tie.Need-refuse-requires-2

@@ -18,7 +18,8 @@ use Rattle.seglog.proofs.Fit.{SegmentGood}
 use Rattle.seglog_prune.specs.declared.Early.the-variants.{Onward}
 use Rattle.seglog_prune.specs.Prune.{cutAt, findCut, imageIn, pruneAnswer, pruneArea}
 use Rattle.seglog_prune.specs.Steps.{earlyOf, cutOf}
-use Rattle.seglog_prune.proofs.Bounds.{last-fits, last-below, slot-fits, part-fits, part-within, start-first, rest-of, take-within, image-room}
+use Rattle.seglog_prune.proofs.Bounds.{last-fits, last-below, slot-fits, part-fits, part-within, start-first, rest-of}
+use Rattle.seglog_prune.proofs.Bounds.{take-within, image-room}
 use Rattle.seglog_prune.proofs.Cut.{cut-within}
 use Rattle.seglog_prune.proofs.Decide.{inner, plain-few, fits-plain}
 use Rattle.seglog_prune.proofs.Inside.{area-small}
