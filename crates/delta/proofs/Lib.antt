@@ -1,3 +1,4 @@
+mod Bounds
 pub mod Copy
 pub mod Plain
 pub mod Placing

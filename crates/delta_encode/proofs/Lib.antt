@@ -1,3 +1,4 @@
+mod Bounds
 pub mod Any
 pub mod Writes
 pub mod Whole

@@ -6,6 +6,7 @@ pub mod Count
 pub mod RowIds
 pub mod Segments
 pub mod Depend
+mod Bounds
 mod ImagesTurn
 mod RowsTurn
 mod ScanCases

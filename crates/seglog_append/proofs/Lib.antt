@@ -1,3 +1,4 @@
+mod Bounds
 pub mod Free
 pub mod Ways
 pub mod Shaped

@@ -1,3 +1,4 @@
+mod Bounds
 pub mod Drops
 pub mod Cut
 pub mod Decide

@@ -50,7 +50,7 @@ returns-2 c =
     ends-outside 256 (a .t) (a .values .now) (a .out .now) (omega arith) (sym (o .any-outside .ensures) ∙ c .if2 .taken)
 
 arrange-requires : tie.Need-arrange-requires
-arrange-requires c κs = search needs
+arrange-requires c κs = tt
 
 returns-3 : tie.Need-returns-3
 returns-3 c =
@@ -78,7 +78,7 @@ returns-4 c =
     (arranged-clash (rowsOf (a .t)) (r .arrange .result) (r .arrange .ensures) ∙ m .before .before .if3 .left) (omega arith)
 
 write-u32-requires : tie.Need-write-u32-requires
-write-u32-requires c κs = search needs
+write-u32-requires c κs = tt
 
 put-erases-requires : tie.Need-put-erases-requires
 put-erases-requires c κs =
@@ -91,7 +91,7 @@ put-erases-requires c κs =
     (at-few m, omega arith)
 
 write-u32-requires-2 : tie.Need-write-u32-requires-2
-write-u32-requires-2 c κs = search needs
+write-u32-requires-2 c κs = tt
 
 add-put-reinstates : tie.Need-add-put-reinstates
 add-put-reinstates c =

@@ -37,7 +37,7 @@ element-copy-out-row : tie.Need-element-copy-out-row Inv-loop μ-loop
 element-copy-out-row c = search needs
 
 key-size-requires : tie.Need-key-size-requires Inv-loop μ-loop
-key-size-requires c κs = search needs
+key-size-requires c κs = tt
 
 add-size : tie.Need-add-size Inv-loop μ-loop
 add-size c = search needs

@@ -1,6 +1,6 @@
 -- `delta_encode::put_erases` meets its contract. The loop's invariant: what the rows from i on give is left to be written.
 -- The measure is the number of rows left. Assumes nothing.
-use Prim.Native.Nat.{_≤_, _<_, _+_, _-_}
+use Prim.Native.Nat.{_≤_, _<_, _+_, _-_, _^_}
 use mathlib.Core.List.{[]}
 use mathlib.Core.Path.{_≡_, refl, ap, sym, subst, _∙_}
 use lib.ListN.{length, take, drop}
@@ -8,8 +8,9 @@ use native.Mathlib.Omega.{arith}
 use Rattle.keys.proofs.Place.{unmapped}
 use Rattle.delta.specs.Table.{erased, rowsOf, rowAt}
 use Rattle.delta_encode.specs.Bytes.{concat, eraseBytes}
+use Rattle.delta_encode.proofs.Bounds.{row-below, row-fits, index-fits, index-up, index-falls, rows-within, key-end, key-fits}
 use Rattle.delta_encode.proofs.Writes.{Writing, writing-start, writing-step, writing-room, writing-end, concat-end, erase-absent, erase-present}
-use borrow.Author.Needs.{needs}
+use borrow.Author.Needs.{needs, zero≤}
 use Rattle.delta_encode.proofs.put_erases.Statement.{statement}
 use Rattle.delta_encode.proofs.put_erases.Tie as tie
 
@@ -21,77 +22,91 @@ Inv-loop out₀ at t count p₀ i₀ out p i =
 abbrev μ-loop : tie.MeasureT-loop
 μ-loop out₀ at t count p₀ i₀ out p i = count - i
 
+-- an array that came by value has its length
+long-at : (st : tie.Start Inv-loop μ-loop) → length (st .args .t1 .rows) ≡ 256
+long-at st = search (needs, unmapped)
+
+-- a slice's length
+bytes-at : (st : tie.Start Inv-loop μ-loop) → length (st .args .out .now) < 2 ^ 63
+bytes-at st = omega (arith, st .good)
+
+-- the rows are entries of the table
+listed : (b : tie.At-loop Inv-loop μ-loop) → let st = b .before .before in st .args .t1 .count ≤ length (st .args .t1 .rows)
+listed b = rows-within (b .before .before .pre .0) (b .loop .inv .1)
+
 loop-holds : tie.Need-loop-holds Inv-loop μ-loop
-loop-holds c = (omega arith, search (needs, unmapped), writing-start _ _ _ _ refl)
+loop-holds c = (zero≤, long-at (c .before), writing-start _ _ _ _ refl)
 
 mul-row : tie.Need-mul-row Inv-loop μ-loop
-mul-row c = search needs
+mul-row c = row-fits (c .loop-test .taken) (c .before .before .before .pre .0)
 
 element-copy-out-row : tie.Need-element-copy-out-row Inv-loop μ-loop
-element-copy-out-row c = search needs
+element-copy-out-row c = row-below (c .loop-test .taken) (c .before .before .before .pre .0)
 
 add-i : tie.Need-add-i Inv-loop μ-loop
-add-i c = search needs
+add-i c = index-fits (c .before .before .loop-test .taken) (c .before .before .before .before .before .pre .0)
 
 loop-less : tie.Need-loop-less Inv-loop μ-loop
-loop-less c = search needs
+loop-less c = index-falls (c .before .before .loop-test .taken)
 
 loop-again : tie.Need-loop-again Inv-loop μ-loop
 loop-again c =
-    let b = c .before .before .before in
+    let i = c .before .before in
+    let b = i .before in
     let a = b .before .before .args in (
-      omega arith,
+      index-up (i .loop-test .taken),
       b .loop .inv .1,
       subst (λ r. Writing (a .out .now) (a .at) (concat eraseBytes (rowsOf (a .t1))) (b .loop .out) (b .loop .p) r)
-          (erase-present (a .t1 .rows) (a .t1 .count) (b .loop .i) (omega arith) (erased []) (omega arith) (c .if1 .taken))
+          (erase-present (a .t1 .rows) (a .t1 .count) (b .loop .i) (listed b) (erased []) (i .loop-test .taken) (c .if1 .taken))
           (b .loop .inv .2),
     )
 
 key-size-requires : tie.Need-key-size-requires Inv-loop μ-loop
-key-size-requires c κs = search needs
+key-size-requires c κs = tt
 
 slice-aggregate-copy-into : tie.Need-slice-aggregate-copy-into Inv-loop μ-loop
 slice-aggregate-copy-into c = search needs
 
 copy-into-requires : tie.Need-copy-into-requires Inv-loop μ-loop
-copy-into-requires c κs = search needs
+copy-into-requires c κs = tt
 
 add-p : tie.Need-add-p Inv-loop μ-loop
 add-p c =
     let n = c .before .before .before .before .before in
-    let b = n .before .before .before .before .before in
+    let i = n .before .before .before .before in
+    let b = i .before in
     let a = b .before .before .args in
     let h : length (rowAt (a .t1) (b .loop .i) .key) ≡ 32 = n .key-size .ensures .1 in
     let k : n .key-size .result ≡ 32 = n .key-size .ensures .0 in
     let r = writing-room (a .out .now) (a .at) (concat eraseBytes (rowsOf (a .t1))) (b .loop .out) (b .loop .p)
     (concat eraseBytes (drop (b .loop .i) (rowsOf (a .t1)))) (b .loop .inv .2)
     (rowAt (a .t1) (b .loop .i) .key) (concat eraseBytes (drop (b .loop .i + 1) (rowsOf (a .t1)))) (b .before .before .pre .1)
-    (erase-absent (a .t1 .rows) (a .t1 .count) (b .loop .i) (omega arith) (erased []) (omega arith) (n .before .before .if1 .left)) in
-    let l = b .loop .inv .2 .long in
-    omega arith
+    (erase-absent (a .t1 .rows) (a .t1 .count) (b .loop .i) (listed b) (erased []) (i .loop-test .taken) (n .before .before .if1 .left)) in
+    key-fits (b .loop .p) _ k h r (b .loop .inv .2 .long) (bytes-at (b .before .before))
 
 add-i-2 : tie.Need-add-i-2 Inv-loop μ-loop
-add-i-2 c = search needs
+add-i-2 c = index-fits (c .before .before .before .before .before .before .before .before .before .loop-test .taken) (c .before .before .before .before .before .before .before .before .before .before .before .before .pre .0)
 
 loop-less-2 : tie.Need-loop-less-2 Inv-loop μ-loop
-loop-less-2 c = search needs
+loop-less-2 c = index-falls (c .before .before .before .before .before .before .before .before .before .loop-test .taken)
 
 loop-again-2 : tie.Need-loop-again-2 Inv-loop μ-loop
 loop-again-2 c =
     let o = c .before .before in
     let n = o .before .before .before in
-    let b = n .before .before .before .before .before in
+    let i = n .before .before .before .before in
+    let b = i .before in
     let a = b .before .before .args in
     let h : length (rowAt (a .t1) (b .loop .i) .key) ≡ 32 = n .key-size .ensures .1 in
     let k : n .key-size .result ≡ 32 = n .key-size .ensures .0 in (
-      omega arith,
+      index-up (i .loop-test .taken),
       b .loop .inv .1,
       writing-step (a .out .now) (a .at) (concat eraseBytes (rowsOf (a .t1))) (b .loop .out) (b .loop .p)
           (concat eraseBytes (drop (b .loop .i) (rowsOf (a .t1)))) (b .loop .inv .2)
           (rowAt (a .t1) (b .loop .i) .key) (concat eraseBytes (drop (b .loop .i + 1) (rowsOf (a .t1)))) (o .copy-into .last .0)
           (b .loop .p + n .key-size .result)
-          (erase-absent (a .t1 .rows) (a .t1 .count) (b .loop .i) (omega arith) (erased []) (omega arith) (n .before .before .if1 .left))
-          (o .copy-into .ensures) (omega arith),
+          (erase-absent (a .t1 .rows) (a .t1 .count) (b .loop .i) (listed b) (erased []) (i .loop-test .taken) (n .before .before .if1 .left))
+          (o .copy-into .ensures) (key-end (b .loop .p) k h),
     )
 
 same-length : tie.Need-same-length Inv-loop μ-loop
@@ -102,7 +117,7 @@ returns c =
     let b = c .before in
     let a = b .before .before .args in
     writing-end (a .out .now) (a .at) (concat eraseBytes (rowsOf (a .t1))) (b .loop .out) (b .loop .p) _ (b .loop .inv .2)
-    (concat-end (a .t1 .rows) (a .t1 .count) (b .loop .i) (omega arith) eraseBytes (c .loop-test .left))
+    (concat-end (a .t1 .rows) (a .t1 .count) (b .loop .i) (listed b) eraseBytes (c .loop-test .left))
 
 pub put-erases-spec : {M : Type 1} → statement M
 put-erases-spec =

@@ -5,14 +5,14 @@ use mathlib.Core.Bool.{false}
 use mathlib.Core.List.{[], _++_}
 use mathlib.Core.Path.{_≡_, refl, ap, sym, subst, _∙_}
 use lib.ListN.{length, take, drop}
-use native.Mathlib.Omega.{arith}
 use Rattle.little_endian.specs.LittleEndian.{leBytes}
 use Rattle.keys.specs.Sort.{any}
 use Rattle.keys.proofs.Place.{unmapped}
 use Rattle.delta.specs.Table.{erased, rowsOf, rowAt}
 use Rattle.delta_encode.specs.Bytes.{concat, reinstateBytes, valueOf, outside}
+use Rattle.delta_encode.proofs.Bounds.{row-below, row-fits, index-fits, index-up, index-falls, rows-within, piece-room, piece-end}
 use Rattle.delta_encode.proofs.Writes.{Writing, writing-start, writing-step, writing-room, writing-end, concat-end, reinstate-present, reinstate-absent, inside, present-length}
-use borrow.Author.Needs.{needs}
+use borrow.Author.Needs.{needs, zero≤}
 use Rattle.delta_encode.proofs.put_reinstates.Statement.{statement}
 use Rattle.delta_encode.proofs.put_reinstates.Tie as tie
 
@@ -25,77 +25,88 @@ Inv-loop values out₀ at t count p₀ i₀ out p i =
 abbrev μ-loop : tie.MeasureT-loop
 μ-loop values out₀ at t count p₀ i₀ out p i = count - i
 
+-- an array that came by value has its length
+long-at : (st : tie.Start Inv-loop μ-loop) → length (st .args .t1 .rows) ≡ 256
+long-at st = search (needs, unmapped)
+
+-- the rows are entries of the table
+listed : (b : tie.At-loop Inv-loop μ-loop) → let st = b .before .before .before in st .args .t1 .count ≤ length (st .args .t1 .rows)
+listed b = rows-within (b .before .before .before .pre .0) (b .loop .inv .1)
+
 loop-holds : tie.Need-loop-holds Inv-loop μ-loop
-loop-holds c = (omega arith, search (needs, unmapped), c .before .before .pre .1 .0, writing-start _ _ _ _ refl)
+loop-holds c = (zero≤, long-at (c .before .before), c .before .before .pre .1 .0, writing-start _ _ _ _ refl)
 
 mul-row : tie.Need-mul-row Inv-loop μ-loop
-mul-row c = search needs
+mul-row c = row-fits (c .loop-test .taken) (c .before .before .before .before .pre .0)
 
 element-copy-out-row : tie.Need-element-copy-out-row Inv-loop μ-loop
-element-copy-out-row c = search needs
+element-copy-out-row c = row-below (c .loop-test .taken) (c .before .before .before .before .pre .0)
 
 key-size-requires : tie.Need-key-size-requires Inv-loop μ-loop
-key-size-requires c κs = search needs
+key-size-requires c κs = tt
 
 put-row-requires : tie.Need-put-row-requires Inv-loop μ-loop
 put-row-requires c κs =
-    let b = c .before .before .before .before .before .before in
+    let i = c .before .before .before .before .before in
+    let b = i .before in
     let a = b .before .before .before .args in
     let row = rowAt (a .t1) (b .loop .i) in
     let y = c .before .before .before .if1 .taken in
-    let n = inside (a .t1 .rows) (a .t1 .count) (b .loop .i) (omega arith) (erased []) (omega arith) (a .values .now) (b .loop .inv .2) in
+    let n = inside (a .t1 .rows) (a .t1 .count) (b .loop .i) (listed b) (erased []) (i .loop-test .taken) (a .values .now) (b .loop .inv .2) in
     let k = present-length (a .values .now) row (c .before .key-size .ensures .1) (n .1 y) in
     let r = writing-room (a .out .now) (a .at) (concat (reinstateBytes (a .values .now)) (rowsOf (a .t1))) (b .loop .out) (b .loop .p)
     (concat (reinstateBytes (a .values .now)) (drop (b .loop .i) (rowsOf (a .t1)))) (b .loop .inv .3)
     (row .key ++ (leBytes 4 (row .length) ++ valueOf (a .values .now) row))
     (concat (reinstateBytes (a .values .now)) (drop (b .loop .i + 1) (rowsOf (a .t1)))) (b .before .before .before .pre .1 .1)
-    (reinstate-present (a .t1 .rows) (a .t1 .count) (b .loop .i) (omega arith) (erased []) (omega arith) (a .values .now) y) in
-    (omega arith, n .1 y)
+    (reinstate-present (a .t1 .rows) (a .t1 .count) (b .loop .i) (listed b) (erased []) (i .loop-test .taken) (a .values .now) y) in
+    (piece-room (b .loop .p) _ r k, n .1 y)
 
 add-i : tie.Need-add-i Inv-loop μ-loop
-add-i c = search needs
+add-i c = index-fits (c .before .before .before .before .before .before .before .before .loop-test .taken) (c .before .before .before .before .before .before .before .before .before .before .before .before .pre .0)
 
 loop-less : tie.Need-loop-less Inv-loop μ-loop
-loop-less c = search needs
+loop-less c = index-falls (c .before .before .before .before .before .before .before .before .loop-test .taken)
 
 loop-again : tie.Need-loop-again Inv-loop μ-loop
 loop-again c =
     let w = c .before .before in
     let n = w .before .before in
-    let b = n .before .before .before .before .before in
+    let i = n .before .before .before .before in
+    let b = i .before in
     let a = b .before .before .before .args in
     let row = rowAt (a .t1) (b .loop .i) in
     let y = n .before .before .if1 .taken in
-    let s = inside (a .t1 .rows) (a .t1 .count) (b .loop .i) (omega arith) (erased []) (omega arith) (a .values .now) (b .loop .inv .2) in
+    let s = inside (a .t1 .rows) (a .t1 .count) (b .loop .i) (listed b) (erased []) (i .loop-test .taken) (a .values .now) (b .loop .inv .2) in
     let k = present-length (a .values .now) row (n .key-size .ensures .1) (s .1 y) in
     let q : w .put-row .result ≡ b .loop .p + (36 + row .length) = w .put-row .ensures .0 in (
-      omega arith,
+      index-up (i .loop-test .taken),
       b .loop .inv .1,
       s .0,
       writing-step (a .out .now) (a .at) (concat (reinstateBytes (a .values .now)) (rowsOf (a .t1))) (b .loop .out) (b .loop .p)
           (concat (reinstateBytes (a .values .now)) (drop (b .loop .i) (rowsOf (a .t1)))) (b .loop .inv .3)
           (row .key ++ (leBytes 4 (row .length) ++ valueOf (a .values .now) row))
           (concat (reinstateBytes (a .values .now)) (drop (b .loop .i + 1) (rowsOf (a .t1)))) (w .put-row .last .0) (w .put-row .result)
-          (reinstate-present (a .t1 .rows) (a .t1 .count) (b .loop .i) (omega arith) (erased []) (omega arith) (a .values .now) y)
-          (w .put-row .ensures .1) (omega arith),
+          (reinstate-present (a .t1 .rows) (a .t1 .count) (b .loop .i) (listed b) (erased []) (i .loop-test .taken) (a .values .now) y)
+          (w .put-row .ensures .1) (piece-end (b .loop .p) q k),
     )
 
 add-i-2 : tie.Need-add-i-2 Inv-loop μ-loop
-add-i-2 c = search needs
+add-i-2 c = index-fits (c .before .before .loop-test .taken) (c .before .before .before .before .before .before .pre .0)
 
 loop-less-2 : tie.Need-loop-less-2 Inv-loop μ-loop
-loop-less-2 c = search needs
+loop-less-2 c = index-falls (c .before .before .loop-test .taken)
 
 loop-again-2 : tie.Need-loop-again-2 Inv-loop μ-loop
 loop-again-2 c =
-    let b = c .before .before .before in
+    let i = c .before .before in
+    let b = i .before in
     let a = b .before .before .before .args in
-    let s = inside (a .t1 .rows) (a .t1 .count) (b .loop .i) (omega arith) (erased []) (omega arith) (a .values .now) (b .loop .inv .2) in (
-      omega arith,
+    let s = inside (a .t1 .rows) (a .t1 .count) (b .loop .i) (listed b) (erased []) (i .loop-test .taken) (a .values .now) (b .loop .inv .2) in (
+      index-up (i .loop-test .taken),
       b .loop .inv .1,
       s .0,
       subst (λ r. Writing (a .out .now) (a .at) (concat (reinstateBytes (a .values .now)) (rowsOf (a .t1))) (b .loop .out) (b .loop .p) r)
-          (reinstate-absent (a .t1 .rows) (a .t1 .count) (b .loop .i) (omega arith) (erased []) (omega arith) (a .values .now)
+          (reinstate-absent (a .t1 .rows) (a .t1 .count) (b .loop .i) (listed b) (erased []) (i .loop-test .taken) (a .values .now)
           (c .if1 .left)) (b .loop .inv .3),
     )
 
@@ -108,7 +119,7 @@ returns c =
     let a = b .before .before .before .args in
     writing-end (a .out .now) (a .at) (concat (reinstateBytes (a .values .now)) (rowsOf (a .t1))) (b .loop .out) (b .loop .p)
     (concat (reinstateBytes (a .values .now)) (drop (b .loop .i) (rowsOf (a .t1)))) (b .loop .inv .3)
-    (concat-end (a .t1 .rows) (a .t1 .count) (b .loop .i) (omega arith) (reinstateBytes (a .values .now)) (c .loop-test .left))
+    (concat-end (a .t1 .rows) (a .t1 .count) (b .loop .i) (listed b) (reinstateBytes (a .values .now)) (c .loop-test .left))
 
 pub put-reinstates-spec : {M : Type 1} → statement M
 put-reinstates-spec =

@@ -1,12 +1,13 @@
 -- `delta_encode::put_row` meets its contract: three pieces, one behind the other.
 -- Assumes nothing.
-use Prim.Native.Nat.{ℕ, _+_, _-_}
+use Prim.Native.Nat.{ℕ, _+_, _<_, _^_}
 use mathlib.Core.Path.{_≡_, ap, sym, _∙_}
 use lib.ListN.{length}
 use native.Mathlib.Omega.{arith}
 use Rattle.lists.specs.Splice.{part, splice}
 use Rattle.little_endian.specs.LittleEndian.{leBytes}
 use Rattle.little_endian.proofs.LittleEndian.{le-bytes-length}
+use Rattle.delta_encode.proofs.Bounds.{number-fits, value-fits, end-fits, row-end, part-fits, part-first, part-size}
 use Rattle.delta_encode.proofs.Writes.{splice-three}
 use borrow.Author.Needs.{needs}
 use Rattle.delta_encode.proofs.put_row.Statement.{statement}
@@ -16,41 +17,48 @@ use Rattle.delta_encode.proofs.put_row.Tie as tie
 key-long : (c : tie.Start) → length (c .args .t3) ≡ 32
 key-long c = search needs
 
+-- a slice's length
+bytes-at : (c : tie.Start) → length (c .args .out .now) < 2 ^ 63
+bytes-at c = omega (arith, c .good)
+
+values-at : (c : tie.Start) → length (c .args .values .now) < 2 ^ 63
+values-at c = omega (arith, c .good)
+
 slice-aggregate-copy-into : tie.Need-slice-aggregate-copy-into
 slice-aggregate-copy-into c = search needs
 
 copy-into-requires : tie.Need-copy-into-requires
-copy-into-requires c κs = search needs
+copy-into-requires c κs = tt
 
 add-write-u32 : tie.Need-add-write-u32
-add-write-u32 c = search needs
+add-write-u32 c = let st = c .before .before .before .before .before .before .before .before in number-fits (st .args .at) (st .args .size) (st .pre .0) (bytes-at st)
 
 write-u32-requires : tie.Need-write-u32-requires
-write-u32-requires c κs = search needs
+write-u32-requires c κs = tt
 
 add-copy-into : tie.Need-add-copy-into
-add-copy-into c = search needs
+add-copy-into c = let st = c .before .before .before .before .before .before .before .before .before .before .before .before in value-fits (st .args .at) (st .args .size) (st .pre .0) (bytes-at st)
 
 add-copy-into-2 : tie.Need-add-copy-into-2
-add-copy-into-2 c = search needs
+add-copy-into-2 c = let st = c .before .before .before .before .before .before .before .before .before .before .before .before in part-fits (st .args .from) (st .args .size) (st .pre .1) (values-at st)
 
 sub-copy-into : tie.Need-sub-copy-into
-sub-copy-into c = search needs
+sub-copy-into c = part-first _ _
 
 part-copy-into-start : tie.Need-part-copy-into-start
-part-copy-into-start c = search needs
+part-copy-into-start c = part-first _ _
 
 part-copy-into-end : tie.Need-part-copy-into-end
 part-copy-into-end c = search needs
 
 copy-into-requires-2 : tie.Need-copy-into-requires-2
-copy-into-requires-2 c κs = search needs
+copy-into-requires-2 c κs = tt
 
 add-result : tie.Need-add-result
-add-result c = search needs
+add-result c = let st = c .before .before .before .before .before .before .before .before .before .before .before .before .before .before .before .before in value-fits (st .args .at) (st .args .size) (st .pre .0) (bytes-at st)
 
 add-result-2 : tie.Need-add-result-2
-add-result-2 c = search needs
+add-result-2 c = let st = c .before .before .before .before .before .before .before .before .before .before .before .before .before .before .before .before in end-fits (st .args .at) (st .args .size) (st .pre .0) (bytes-at st)
 
 same-length : tie.Need-same-length
 same-length c = search needs
@@ -61,8 +69,8 @@ returns c =
     let number = value .before .before .before .before .before in
     let front = number .before .before .before .before in
     let a = front .before .before .before .before .before .args in
-    let same : a .from + a .size - a .from ≡ a .size = omega arith in (
-      omega arith,
+    let same = part-size (a .from) (a .size) in (
+      row-end (a .at) (a .size),
       splice-three (a .out .now) (a .at) (a .t3) (leBytes 4 (a .size)) (part (a .from) (a .size) (a .values .now))
           (front .copy-into .last .0) (number .write-u32 .last .0) (value .copy-into2 .last .0)
           (key-long (front .before .before .before .before .before)) (le-bytes-length 4 (a .size))

@@ -38,7 +38,7 @@ returns c =
     scan-fault (a .area .now) (a .c) (a .s) (a .e) (a .count) (a .rows) (a .index .now) _ (wk .walk .ensures) (c .if1 .taken)
 
 refusal-requires : tie.Need-refusal-requires
-refusal-requires c κs = search needs
+refusal-requires c κs = tt
 
 returns-2 : tie.Need-returns-2
 returns-2 c =
@@ -49,7 +49,7 @@ returns-2 c =
     (not-true _ (c .before .if2 .taken)) _ (c .refusal .ensures)
 
 refusal-requires-2 : tie.Need-refusal-requires-2
-refusal-requires-2 c κs = search needs
+refusal-requires-2 c κs = tt
 
 returns-3 : tie.Need-returns-3
 returns-3 c =
@@ -60,7 +60,7 @@ returns-3 c =
     (e2 .before .before .if1 .left) (start-at e2) (not-true _ (c .before .if3 .taken)) _ (c .refusal2 .ensures)
 
 refusal-requires-3 : tie.Need-refusal-requires-3
-refusal-requires-3 c κs = search needs
+refusal-requires-3 c κs = tt
 
 returns-4 : tie.Need-returns-4
 returns-4 c =

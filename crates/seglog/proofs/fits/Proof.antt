@@ -40,7 +40,7 @@ abbrev μ-loop2 : tie.MeasureT-loop2
 μ-loop2 bytes log unused used₀ later₀ i₀ used later i = i
 
 sizes-fit-requires : tie.Need-sizes-fit-requires Inv-loop μ-loop Inv-loop2 μ-loop2
-sizes-fit-requires c κs = search needs
+sizes-fit-requires c κs = tt
 
 returns : tie.Need-returns Inv-loop μ-loop Inv-loop2 μ-loop2
 returns c =
@@ -58,7 +58,7 @@ element-copy-out-is-zero : tie.Need-element-copy-out-is-zero Inv-loop μ-loop In
 element-copy-out-is-zero c = search needs
 
 is-zero-requires : tie.Need-is-zero-requires Inv-loop μ-loop Inv-loop2 μ-loop2
-is-zero-requires c κs = search needs
+is-zero-requires c κs = tt
 
 returns-2 : tie.Need-returns-2 Inv-loop μ-loop Inv-loop2 μ-loop2
 returns-2 c =
@@ -84,7 +84,7 @@ loop-again c =
     )
 
 no-segment-requires : tie.Need-no-segment-requires Inv-loop μ-loop Inv-loop2 μ-loop2
-no-segment-requires c κs = search needs
+no-segment-requires c κs = tt
 
 loop2-holds : tie.Need-loop2-holds Inv-loop μ-loop Inv-loop2 μ-loop2
 unfolding marksOf
@@ -112,7 +112,7 @@ element-copy-out-g c =
     omega (arith, sized-count _ _ (l .inv .0), l .inv .2 .within, c .loop2-test)
 
 listed-good-requires : tie.Need-listed-good-requires Inv-loop μ-loop Inv-loop2 μ-loop2
-listed-good-requires c κs = search needs
+listed-good-requires c κs = tt
 
 returns-3 : tie.Need-returns-3 Inv-loop μ-loop Inv-loop2 μ-loop2
 returns-3 c =
@@ -171,7 +171,7 @@ loop2-again c =
     )
 
 last-of-requires : tie.Need-last-of-requires Inv-loop μ-loop Inv-loop2 μ-loop2
-last-of-requires c κs = search needs
+last-of-requires c κs = tt
 
 element-copy-out-ends-good : tie.Need-element-copy-out-ends-good Inv-loop μ-loop Inv-loop2 μ-loop2
 element-copy-out-ends-good c = search needs
@@ -190,7 +190,7 @@ element-copy-out-ends-good-2 c =
     omega (arith, sized-count _ _ (l .inv .0), c .before .last-of .ensures)
 
 ends-good-requires : tie.Need-ends-good-requires Inv-loop μ-loop Inv-loop2 μ-loop2
-ends-good-requires c κs = search needs
+ends-good-requires c κs = tt
 
 returns-5 : tie.Need-returns-5 Inv-loop μ-loop Inv-loop2 μ-loop2
 returns-5 c =

@@ -3,13 +3,13 @@
 use mathlib.Core.Path.{_≡_, sym, _∙_}
 use mathlib.Core.Logic.{⊎-elim}
 use Prim.Native.Nat.{_-_, _≤_}
-use native.Mathlib.Omega.{arith}
 use lib.ListN.{length}
 use borrow.Author.Tests.{not-true, not-false}
 use Rattle.record.specs.Record.{recordRoom}
 use Rattle.seglog.specs.Log.{viewOf}
 use Rattle.seglog.proofs.View.{unmapped}
 use Rattle.seglog_append.specs.Append.{opensOf, nextId}
+use Rattle.seglog_append.proofs.Bounds.{last-below, entry-fits, count-fits, room-by, full-by}
 use Rattle.seglog_append.proofs.Ways.{
   Past,
   Spot,
@@ -33,59 +33,26 @@ use Rattle.seglog_append.proofs.Ways.{
 use borrow.Author.Needs.{needs}
 use Rattle.seglog_append.proofs.append.Statement.{statement}
 use Rattle.seglog_append.proofs.append.Tie as tie
-use Rattle.seglog_append.proofs.append.Reads as reads
-use Rattle.seglog_append.proofs.append.Lts as lts
-use Rattle.page.proofs.writer_next_pos.Reads as writer-next-pos-reads
-use Rattle.seglog.proofs.fits.Reads as fits-reads
-use Rattle.seglog.proofs.last_of.Reads as last-of-reads
-use Rattle.seglog_append.proofs.gen_segment_id.Reads as gen-segment-id-reads
-use Rattle.seglog_append.proofs.lowest_free.Reads as lowest-free-reads
-use Rattle.seglog_append.proofs.new_segment.Reads as new-segment-reads
-use Rattle.seglog_append.proofs.opens.Reads as opens-reads
-use Rattle.seglog_append.proofs.refuse.Reads as refuse-reads
-use Rattle.seglog_append.proofs.start_after.Reads as start-after-reads
-use Rattle.segment_rw.proofs.append_record.Reads as append-record-reads
 
--- what is known of the calls, at every place below
-abbrev calls : lts.Claims
-calls = (
-  fits-reads.Asked,
-  fits-reads.Learnt,
-  refuse-reads.Asked,
-  refuse-reads.Learnt,
-  last-of-reads.Asked,
-  last-of-reads.Learnt,
-  opens-reads.Asked,
-  opens-reads.Learnt,
-  gen-segment-id-reads.Asked,
-  gen-segment-id-reads.Learnt,
-  lowest-free-reads.Asked,
-  lowest-free-reads.Learnt,
-  new-segment-reads.Asked,
-  new-segment-reads.Learnt,
-  writer-next-pos-reads.Asked,
-  writer-next-pos-reads.Learnt,
-  append-record-reads.Asked,
-  append-record-reads.Learnt,
-  start-after-reads.Asked,
-  start-after-reads.Learnt,
-)
+-- an array that came by value has its length
+long-at : (st : tie.Start) → length (st .args .t1 .segs) ≡ 64
+long-at st = search (needs, unmapped)
 
 -- behind refusal 4
-past : (c : lts.Else3 calls reads.Pre reads.Post)
+past : (c : tie.Else3)
     → Past (c .before .before .before .before .before .before .args .t1)
     (c .before .before .before .before .before .before .args .area .now)
     (c .before .before .before .before .before .before .args .payload .now)
 past c =
     record {
-      long = search (needs, unmapped);
+      long = long-at (c .before .before .before .before .before .before);
       fits = sym (c .before .before .before .fits2 .ensures) ∙ not-false _ (c .before .before .if1 .left);
-      small = omega (arith, c .before .if2 .left);
-      more = λ z. omega (arith, c .if3 .left);
+      small = c .before .if2 .left;
+      more = c .if3 .left;
     }
 
 -- whether a new segment is wanted
-wanted : (c : lts.After-opens calls reads.Pre reads.Post)
+wanted : (c : tie.After-opens)
     → c .opens .result ≡ opensOf (viewOf (c .before .before .before .before .before .before .before .before .before .args .t1))
 wanted c =
     let a = c .before .before .before .before .before .before .before .before .before .args in
@@ -93,7 +60,7 @@ wanted c =
     opens-by (a .t1) (a .area .now) (a .payload .now) (k .long) (k .fits) _ (c .before .before .last-of .ensures) _ (c .opens .ensures)
 
 -- the id of a new segment
-next-id : (c : lts.After-gen-segment-id calls reads.Pre reads.Post)
+next-id : (c : tie.After-gen-segment-id)
     → c .gen-segment-id .result
     ≡ nextId (viewOf (c .before .before .before .before .before .before .before .before .before .before .before .args .t1) .segs)
 next-id c =
@@ -103,7 +70,7 @@ next-id c =
     (c .before .before .before .before .last-of .ensures) _ (c .gen-segment-id .ensures)
 
 -- where both ways to a segment meet: the record goes there
-spot : (c : lts.Joined4 calls reads.Pre reads.Post)
+spot : (c : tie.Joined4)
     → Spot (c .before .before .before .before .before .before .before .before .before .before .args .t1) (c .if4 .target) (c .if4 .at)
 spot c =
     let a = c .before .before .before .before .before .before .before .before .before .before .args in
@@ -120,73 +87,73 @@ spot c =
     (c .if4 .came)
 
 fits-requires : tie.Need-fits-requires
-fits-requires c κs = search needs
+fits-requires c κs = tt
 
 refuse-requires : tie.Need-refuse-requires
-refuse-requires c κs = search needs
+refuse-requires c κs = tt
 
 returns : tie.Need-returns
 returns c =
-    let a = c .before .before .before .before .before .args in
-    let long : length (a .t1 .segs) ≡ 64 = search (needs, unmapped) in
+    let st = c .before .before .before .before .before in
+    let a = st .args in
     let why =
-    way-2 (a .t1) (a .area .now) (a .payload .now) long (sym (c .before .before .fits2 .ensures) ∙ not-true _ (c .before .if1 .taken)) in
+    way-2 (a .t1) (a .area .now) (a .payload .now) (long-at st) (sym (c .before .before .fits2 .ensures) ∙ not-true _ (c .before .if1 .taken)) in
     (refused-answer (a .t1) 2 _ _ why (c .refuse .ensures), refused-area (a .area .now) 2 _ why)
 
 refuse-requires-2 : tie.Need-refuse-requires-2
-refuse-requires-2 c κs = search needs
+refuse-requires-2 c κs = tt
 
 returns-2 : tie.Need-returns-2
 returns-2 c =
-    let a = c .before .before .before .before .before .before .args in
-    let long : length (a .t1 .segs) ≡ 64 = search (needs, unmapped) in
+    let st = c .before .before .before .before .before .before in
+    let a = st .args in
     let why =
-    way-3 (a .t1) (a .area .now) (a .payload .now) long
-    (sym (c .before .before .before .fits2 .ensures) ∙ not-false _ (c .before .before .if1 .left)) (omega (arith, c .before .if2 .taken)) in
+    way-3 (a .t1) (a .area .now) (a .payload .now) (long-at st)
+    (sym (c .before .before .before .fits2 .ensures) ∙ not-false _ (c .before .before .if1 .left)) (c .before .if2 .taken) in
     (refused-answer (a .t1) 3 _ _ why (c .refuse2 .ensures), refused-area (a .area .now) 3 _ why)
 
 refuse-requires-3 : tie.Need-refuse-requires-3
-refuse-requires-3 c κs = search needs
+refuse-requires-3 c κs = tt
 
 returns-3 : tie.Need-returns-3
 returns-3 c =
-    let a = c .before .before .before .before .before .before .before .args in
-    let long : length (a .t1 .segs) ≡ 64 = search (needs, unmapped) in
+    let st = c .before .before .before .before .before .before .before in
+    let a = st .args in
     let why =
-    way-4 (a .t1) (a .area .now) (a .payload .now) long
+    way-4 (a .t1) (a .area .now) (a .payload .now) (long-at st)
     (sym (c .before .before .before .before .fits2 .ensures) ∙ not-false _ (c .before .before .before .if1 .left))
-    (omega (arith, c .before .before .if2 .left))
-    (omega (arith, c .before .if3 .taken)) in
+    (c .before .before .if2 .left)
+    (c .before .if3 .taken) in
     (refused-answer (a .t1) 4 _ _ why (c .refuse3 .ensures), refused-area (a .area .now) 4 _ why)
 
 add-id : tie.Need-add-id
 add-id c = search needs
 
 last-of-requires : tie.Need-last-of-requires
-last-of-requires c κs = search needs
+last-of-requires c κs = tt
 
 mul-target : tie.Need-mul-target
 mul-target c =
     let a = c .before .before .before .before .before .before .before .args in
     let k = past (c .before) in
     let f = fit (a .t1) (a .area .now) (a .payload .now) (k .long) (k .fits) in
-    omega (arith, f .few, f .sizes .few-slots, c .last-of .ensures)
+    entry-fits (last-below (f .few) (f .sizes .few-slots) (c .last-of .ensures))
 
 element-copy-out-target : tie.Need-element-copy-out-target
 element-copy-out-target c =
     let a = c .before .before .before .before .before .before .before .args in
     let k = past (c .before) in
     let f = fit (a .t1) (a .area .now) (a .payload .now) (k .long) (k .fits) in
-    omega (arith, f .few, f .sizes .few-slots, c .last-of .ensures)
+    last-below (f .few) (f .sizes .few-slots) (c .last-of .ensures)
 
 opens-requires : tie.Need-opens-requires
-opens-requires c κs = search needs
+opens-requires c κs = tt
 
 gen-segment-id-requires : tie.Need-gen-segment-id-requires
-gen-segment-id-requires c κs = search needs
+gen-segment-id-requires c κs = tt
 
 refuse-requires-4 : tie.Need-refuse-requires-4
-refuse-requires-4 c κs = search needs
+refuse-requires-4 c κs = tt
 
 returns-4 : tie.Need-returns-4
 returns-4 c =
@@ -209,7 +176,7 @@ cast-if6 : tie.Need-cast-if6
 cast-if6 c = search needs
 
 refuse-requires-5 : tie.Need-refuse-requires-5
-refuse-requires-5 c κs = search needs
+refuse-requires-5 c κs = tt
 
 returns-5 : tie.Need-returns-5
 returns-5 c =
@@ -224,10 +191,10 @@ returns-5 c =
     (refused-answer (a .t1) 6 _ _ why (c .refuse5 .ensures), refused-area (a .area .now) 6 _ why)
 
 new-segment-requires : tie.Need-new-segment-requires
-new-segment-requires c κs = search needs
+new-segment-requires c κs = tt
 
 sub-if7 : tie.Need-sub-if7
-sub-if7 c = omega (arith, spot (c .before) .size)
+sub-if7 c = spot (c .before) .size
 
 cast-writer-next-pos : tie.Need-cast-writer-next-pos
 cast-writer-next-pos c = search needs
@@ -236,10 +203,10 @@ add-writer-next-pos : tie.Need-add-writer-next-pos
 add-writer-next-pos c = search needs
 
 writer-next-pos-requires : tie.Need-writer-next-pos-requires
-writer-next-pos-requires c κs = search needs
+writer-next-pos-requires c κs = tt
 
 refuse-requires-6 : tie.Need-refuse-requires-6
-refuse-requires-6 c κs = search needs
+refuse-requires-6 c κs = tt
 
 returns-6 : tie.Need-returns-6
 unfolding recordRoom
@@ -250,23 +217,23 @@ returns-6 c =
     let why =
     way-7 (a .t1) (a .area .now) (a .payload .now) (k .long) (k .fits)
     (k .small) (k .more) (met .if4 .target) (met .if4 .at) (spot met)
-    (omega (arith, c .before .if7 .taken, c .before .before .writer-next-pos .ensures)) in
+    (full-by (c .before .if7 .taken) (c .before .before .writer-next-pos .ensures)) in
     (refused-answer (a .t1) 7 _ _ why (c .refuse6 .ensures), refused-area (a .area .now) 7 _ why)
 
 append-record-requires : tie.Need-append-record-requires
-append-record-requires c κs = search needs
+append-record-requires c κs = tt
 
 start-after-requires : tie.Need-start-after-requires
-start-after-requires c κs = search needs
+start-after-requires c κs = tt
 
 add-log : tie.Need-add-log
-add-log c = omega (arith, spot (c .before .before .before .before .before .before .before .before .before) .few)
+add-log c = count-fits (spot (c .before .before .before .before .before .before .before .before .before) .few)
 
 mul-target-2 : tie.Need-mul-target-2
-mul-target-2 c = omega (arith, spot (c .before .before .before .before .before .before .before .before .before) .few)
+mul-target-2 c = entry-fits (spot (c .before .before .before .before .before .before .before .before .before) .few)
 
 element-set-from-target : tie.Need-element-set-from-target
-element-set-from-target c = omega (arith, spot (c .before .before .before .before .before .before .before .before .before) .few)
+element-set-from-target c = spot (c .before .before .before .before .before .before .before .before .before) .few
 
 same-length : tie.Need-same-length
 same-length c = search needs
@@ -280,7 +247,7 @@ returns-7 c =
     let wrote = c .before .before .before .before .append-record .ensures in
     let padded = c .before .before .before .before .before .before .before .writer-next-pos .ensures in
     let room : recordRoom (length (a .payload .now)) ≤ a .t1 .c - met .if4 .target .size =
-    omega (arith, c .before .before .before .before .before .before .if7 .left, padded) in (
+    room-by (c .before .before .before .before .before .before .if7 .left) padded in (
       done-answer (a .t1) (a .area .now) (a .payload .now) (k .long) (k .fits)
           (k .small) (k .more) (met .if4 .target) (met .if4 .at) (spot met) room _ _ wrote _
           (c .before .start-after .ensures),

@@ -9,7 +9,7 @@ use Rattle.seglog_prune.proofs.ended.Statement.{statement}
 use Rattle.seglog_prune.proofs.ended.Tie as tie
 
 cleared-requires : tie.Need-cleared-requires
-cleared-requires c κs = search needs
+cleared-requires c κs = c .before .pre .1
 
 sub-at : tie.Need-sub-at
 sub-at c = search needs

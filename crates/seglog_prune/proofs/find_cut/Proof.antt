@@ -41,7 +41,7 @@ loop-holds : tie.Need-loop-holds Inv-loop μ-loop
 loop-holds c = record { near = search needs; so-far = refl }
 
 read-header-requires : tie.Need-read-header-requires Inv-loop μ-loop
-read-header-requires c κs = search needs
+read-header-requires c κs = tt
 
 enum-known-header : tie.Need-enum-known-header Inv-loop μ-loop
 enum-known-header c = search needs
@@ -71,7 +71,7 @@ cast-reader-next-pos : tie.Need-cast-reader-next-pos Inv-loop μ-loop
 cast-reader-next-pos c = search needs
 
 reader-next-pos-requires : tie.Need-reader-next-pos-requires Inv-loop μ-loop
-reader-next-pos-requires c κs = search needs
+reader-next-pos-requires c κs = tt
 
 returns-3 : tie.Need-returns-3 Inv-loop μ-loop
 returns-3 c =

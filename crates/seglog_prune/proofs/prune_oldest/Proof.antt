@@ -22,13 +22,13 @@ long-of : (s : tie.Start) → length (s .args .log .segs) ≡ 64
 long-of s = search (needs, unmapped)
 
 decide-early-requires : tie.Need-decide-early-requires
-decide-early-requires c κs = search needs
+decide-early-requires c κs = tt
 
 enum-told : tie.Need-enum-told
 enum-told c = search needs
 
 settled-requires : tie.Need-settled-requires
-settled-requires c κs = search needs
+settled-requires c κs = tt
 
 returns : tie.Need-returns
 returns c =

@@ -1,10 +1,11 @@
 -- `seglog_prune::prune_recent` meets its contract: the shared tests decide, or the cut is looked for in the last segment that stays.
 -- Assumes nothing.
-use mathlib.Core.Path.{_≡_, sym, ap, _∙_}
+use mathlib.Core.Path.{_≡_, refl, sym, ap, _∙_}
 use mathlib.Core.List.{List}
 use Prim.Native.Nat.{ℕ, _+_, _-_, _*_, _≤_, _<_}
+use native.Mathlib.Nat.{le-trans}
 use native.Mathlib.Omega.{arith}
-use lib.ListN.{length, getD, take, drop, replicate, length-take}
+use lib.ListN.{length, getD, take, drop, replicate}
 use Rattle.lists.specs.Splice.{splice}
 use Rattle.seglog.specs.declared.Log.{Log}
 use Rattle.seglog.specs.declared.Segment.{Segment}
@@ -16,6 +17,7 @@ use Rattle.seglog.proofs.Fit.{SegmentGood}
 use Rattle.seglog_prune.specs.declared.Early.the-variants.{Onward}
 use Rattle.seglog_prune.specs.Prune.{cutAt, findCut, imageIn, pruneAnswer, pruneArea}
 use Rattle.seglog_prune.specs.Steps.{earlyOf, cutOf}
+use Rattle.seglog_prune.proofs.Bounds.{last-fits, last-below, slot-fits, part-fits, part-within, start-first, rest-of, take-within, image-room}
 use Rattle.seglog_prune.proofs.Cut.{cut-within}
 use Rattle.seglog_prune.proofs.Decide.{inner, plain-few, fits-plain}
 use Rattle.seglog_prune.proofs.Inside.{area-small}
@@ -76,7 +78,7 @@ staying-of c =
 
 module _ (c : tie.After-remaining) where
   few : left-of c ≤ 64
-  few = omega (arith, c .remaining .ensures .0, few-entries _ _ _ _ (staying-of c))
+  few = le-trans (c .remaining .ensures .0) (few-entries _ _ _ _ (staying-of c))
 
   some : 0 < left-of c
   some = left-some _ _ _ _ (staying-of c)
@@ -104,7 +106,7 @@ module _ (c : tie.After-remaining) where
       front a b = omega arith
 
   image-small : length (imageIn (area-of c) (log-of c .c) (head-of c)) ≤ log-of c .c
-  image-small = omega (arith, length-take (head-of c .size) (drop (head-of c .slot * log-of c .c) (area-of c)), good .size)
+  image-small = take-within (head-of c .size) (drop (head-of c .slot * log-of c .c) (area-of c)) (good .size)
 
 -- what the search answers is what is found in the image
 found : (c : tie.After-find-cut) → let r = left-at c in
@@ -122,13 +124,13 @@ cut-small c =
     cut-within _ _ _ _ (cut-of c) (image-small r) (pages r .whole-pages)
 
 decide-early-requires : tie.Need-decide-early-requires
-decide-early-requires c κs = search needs
+decide-early-requires c κs = tt
 
 enum-told : tie.Need-enum-told
-enum-told c = search needs
+enum-told c = c .match .keys1
 
 settled-requires : tie.Need-settled-requires
-settled-requires c κs = search needs
+settled-requires c κs = tt
 
 returns : tie.Need-returns
 returns c =
@@ -147,42 +149,42 @@ sub-head : tie.Need-sub-head
 sub-head c = some c
 
 mul-head : tie.Need-mul-head
-mul-head c = record { fits = omega (arith, few c) }
+mul-head c = last-fits (few c)
 
 array-copy-out-head : tie.Need-array-copy-out-head
-array-copy-out-head c = omega (arith, few c, some c)
+array-copy-out-head c = last-below (few c) (some c)
 
 cast-from : tie.Need-cast-from
 cast-from c = search needs
 
 mul-from : tie.Need-mul-from
-mul-from c = let r = c .before .before .before in record { fits = omega (arith, inside r, small r) }
+mul-from c = let r = c .before .before .before in slot-fits _ _ (inside r) (small r)
 
 add-to : tie.Need-add-to
-add-to c = let r = c .before .before .before in record { fits = omega (arith, inside r, small r, good r .size) }
+add-to c = let r = c .before .before .before in part-fits _ _ _ (inside r) (small r) (good r .size)
 
 sub-find-cut : tie.Need-sub-find-cut
-sub-find-cut c = search needs
+sub-find-cut c = start-first _ _
 
 part-find-cut-start : tie.Need-part-find-cut-start
-part-find-cut-start c = search needs
+part-find-cut-start c = start-first _ _
 
 part-find-cut-end : tie.Need-part-find-cut-end
-part-find-cut-end c = let r = c .before .before .before .before in omega (arith, inside r, good r .size)
+part-find-cut-end c = let r = c .before .before .before .before in part-within _ _ _ (inside r) (good r .size)
 
 find-cut-requires : tie.Need-find-cut-requires
 find-cut-requires c κs =
     let r = c .before .before .before .before .before in
-    omega (arith, ap length (image-is r), image-small r, pages r .at-most)
+    image-room (ap length (image-is r)) (image-small r) (pages r .at-most)
 
 enum-known-end : tie.Need-enum-known-end
-enum-known-end c = search needs
+enum-known-end c = c .match2 .keys1
 
 enum-told-2 : tie.Need-enum-told-2
-enum-told-2 c = search needs
+enum-told-2 c = c .match2 .keys2
 
 same-length : tie.Need-same-length
-same-length c = search needs
+same-length c = refl
 
 returns-2 : tie.Need-returns-2
 returns-2 c =
@@ -195,10 +197,10 @@ returns-2 c =
 add-zero-fill : tie.Need-add-zero-fill
 add-zero-fill c =
     let r = left-at (c .before .before .before .before) in
-    record { fits = omega (arith, inside r, small r, cut-small (c .before)) }
+    part-fits _ _ _ (inside r) (small r) (cut-small (c .before))
 
 zero-fill-requires : tie.Need-zero-fill-requires
-zero-fill-requires c κs = search needs
+zero-fill-requires c κs = tt
 
 ended-requires : tie.Need-ended-requires
 ended-requires c κs =
@@ -213,8 +215,7 @@ returns-3 c =
     let told = c .before .before .before .before .before in
     let r = left-at (told .before .before .before) in
     let x = told .before .end .given .0 .0 in
-    let zeros : head-of r .slot * log-of r .c + x - (head-of r .slot * log-of r .c + head-of r .size) ≡ x - head-of r .size = omega arith
-    in (
+    let zeros = rest-of (head-of r .slot * log-of r .c) (head-of r .size) x in (
       ap accepted (c .ended .ensures) ∙ recent-answer (log-of r) (area-of r) (end-of r) (left-of r) (staying-of r) x (cut-of told),
       c .before .before .before .zero-fill .ensures
           ∙ ap (λ (k : ℕ). splice (head-of r .slot * log-of r .c + head-of r .size) (replicate k 0) (area-of r)) zeros

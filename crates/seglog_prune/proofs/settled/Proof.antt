@@ -15,7 +15,7 @@ enum-told : tie.Need-enum-told
 enum-told c = search needs
 
 emptied-requires : tie.Need-emptied-requires
-emptied-requires c κs = search needs
+emptied-requires c κs = tt
 
 returns : tie.Need-returns
 returns c = sym (ap (settledOf (c .before .before .before .args .log)) (c .before .outcome .given .1))

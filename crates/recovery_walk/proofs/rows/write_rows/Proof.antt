@@ -1,12 +1,13 @@
 -- `rows::write_rows` meets its contract: each turn of a loop is one law of RowWords.antt or RowsTurn.antt.
 -- Assumes nothing.
-use borrow.Author.Needs.{needs}
+use borrow.Author.Needs.{needs, zero≤}
 use native.Mathlib.Omega.{arith}
 use mathlib.Core.Path.{_≡_, refl, sym, _∙_}
 use mathlib.Core.Logic.{⊎-elim}
 use mathlib.Core.List.{List}
 use mathlib.Core.Bool.{true}
-use Prim.Native.Nat.{ℕ, _+_, _-_, _*_, _^_, _≤_}
+use Prim.Native.Nat.{ℕ, _+_, _-_, _*_, _^_, _≤_, _<_}
+use native.Mathlib.Nat.{le-refl}
 use lib.ListN.{length}
 use Rattle.recovery_walk.specs.declared.ImageRow.{ImageRow}
 use Rattle.recovery_walk.specs.declared.Step.the-variants.{Next}
@@ -14,6 +15,8 @@ use Rattle.recovery_walk.specs.Step.{recordStep, moreOf}
 use Rattle.recovery_walk.specs.Images.{rowAt}
 use Rattle.recovery_walk.specs.Rows.{rowOf}
 use Rattle.recovery_walk.proofs.StepCases.{more-inside, step-moves}
+use Rattle.recovery_walk.proofs.Bounds.{index-below, row-fits, index-fits, start-fits, end-fits, start-first}
+use Rattle.recovery_walk.proofs.Bounds.{still-small, still-room, index-falls, place-falls}
 use Rattle.recovery_walk.proofs.RowWords.{rows-end, rows-fault}
 use Rattle.recovery_walk.proofs.ImagesTurn.{partOf, part-size}
 use Rattle.recovery_walk.proofs.RowsTurn.{AtRows, AtAll, row-room, row-next, image-room, rows-done, image-next}
@@ -72,6 +75,10 @@ img-of op = let a = start-of (images-of op) .args in partOf (a .area .now) (a .c
 length-at : (st : Start) → length (st .args .t4) ≡ 64
 length-at st = search needs
 
+-- a slice's length is a number of 64 bits
+area-at : (st : Start) → length (st .args .area .now) < 2 ^ 64
+area-at st = omega (arith, st .good)
+
 -- the image lies in the area, is as long as its row says, and no longer than a slot may be
 within-at : (ar : Row)
     → let im = ar .before .before .before in
@@ -108,49 +115,46 @@ room-at c =
     let im = images-of op in
     let st = start-of im in
     row-room _ _ _ _ _ _ _ _ _ _ (re .records .inv) _ (going th) (stepped kt) _ (c .before .is-live .ensures)
-    (omega (
-      arith,
-      image-room _ _ _ _ _ _ _ _ _ _ _ (st .pre .0 .few) (length-at st) (im .images .inv) (row-at op .before .before .images-test .taken) _
-          (op .opened .ensures) (st .pre .1),
-      re .records .inv .long,
-    ))
+    (still-room
+    (image-room _ _ _ _ _ _ _ _ _ _ _ (st .pre .0 .few) (length-at st) (im .images .inv) (row-at op .before .before .images-test .taken) _
+    (op .opened .ensures) (st .pre .1)) (re .records .inv .long))
 
 -- ---- the answers
 
 start-requires : tie.Need-start-requires Inv-records μ-records Inv-images μ-images
-start-requires c κs = search needs
+start-requires c κs = tt
 
 images-holds : tie.Need-images-holds Inv-records μ-records Inv-images μ-images
 images-holds c =
     rw (c .start .ensures)
-    (record { upto = omega arith; long = refl; within = omega arith; kept = refl; counted = omega arith; so-far = refl })
+    (record { upto = zero≤; long = refl; within = zero≤; kept = refl; counted = zero≤; so-far = refl })
 
 mul-row : tie.Need-mul-row Inv-records μ-records Inv-images μ-images
-mul-row c = omega (arith, start-of (c .before) .pre .0 .few)
+mul-row c = row-fits (start-of (c .before) .pre .0 .few) (c .images-test .taken)
 
 array-copy-out-row : tie.Need-array-copy-out-row Inv-records μ-records Inv-images μ-images
-array-copy-out-row c = omega (arith, start-of (c .before) .pre .0 .few)
+array-copy-out-row c = index-below (start-of (c .before) .pre .0 .few) (c .images-test .taken)
 
 cast-from : tie.Need-cast-from Inv-records μ-records Inv-images μ-images
 cast-from c = search needs
 
 mul-from : tie.Need-mul-from Inv-records μ-records Inv-images μ-images
-mul-from c = omega (arith, within-at c, start-of (c .before .before .before) .good)
+mul-from c = start-fits _ _ (within-at c) (area-at (start-of (c .before .before .before)))
 
 add-img : tie.Need-add-img Inv-records μ-records Inv-images μ-images
-add-img c = omega (arith, within-at c, start-of (c .before .before .before) .good)
+add-img c = end-fits _ _ (within-at c) (area-at (start-of (c .before .before .before)))
 
 sub-img : tie.Need-sub-img Inv-records μ-records Inv-images μ-images
-sub-img c = omega arith
+sub-img c = start-first _ _
 
 part-img-start : tie.Need-part-img-start Inv-records μ-records Inv-images μ-images
-part-img-start c = omega arith
+part-img-start c = start-first _ _
 
 part-img-end : tie.Need-part-img-end Inv-records μ-records Inv-images μ-images
 part-img-end c = within-at c
 
 opened-requires : tie.Need-opened-requires Inv-records μ-records Inv-images μ-images
-opened-requires c κs = search needs
+opened-requires c κs = tt
 
 records-holds : tie.Need-records-holds Inv-records μ-records Inv-images μ-images
 records-holds c =
@@ -158,32 +162,32 @@ records-holds c =
     record {
       long = refl;
       upto = im .images .inv .within;
-      later = omega arith;
+      later = le-refl _;
       kept = refl;
       counted = rw (c .opened .ensures) (im .images .inv .counted);
       so-far = refl;
     }
 
 more-requires : tie.Need-more-requires Inv-records μ-records Inv-images μ-images
-more-requires c κs = search needs
+more-requires c κs = tt
 
 record-step-requires : tie.Need-record-step-requires Inv-records μ-records Inv-images μ-images
 record-step-requires c κs =
     let re = c .before .before in
     record {
       inside = more-inside _ _ (going c);
-      room = omega (arith, len-at (re .before), small-at (re .before));
+      room = still-small (len-at (re .before)) (small-at (re .before));
       counted = re .records .inv .counted;
     }
 
 enum-known-step : tie.Need-enum-known-step Inv-records μ-records Inv-images μ-images
-enum-known-step c = search needs
+enum-known-step c = c .match .keys1
 
 enum-told : tie.Need-enum-told Inv-records μ-records Inv-images μ-images
-enum-told c = search needs
+enum-told c = c .match .keys2
 
 is-live-requires : tie.Need-is-live-requires Inv-records μ-records Inv-images μ-images
-is-live-requires c κs = search needs
+is-live-requires c κs = tt
 
 put-live-requires : tie.Need-put-live-requires Inv-records μ-records Inv-images μ-images
 put-live-requires c κs = room-at c
@@ -191,7 +195,7 @@ put-live-requires c κs = room-at c
 records-less : tie.Need-records-less Inv-records μ-records Inv-images μ-images
 records-less c =
     let kt = c .before .before .before .before .before in
-    omega (arith, more-inside _ _ (going (kt .before .before .before .before)), step-moves _ _ _ _ _ (stepped kt))
+    place-falls (more-inside _ _ (going (kt .before .before .before .before))) (step-moves _ _ _ _ _ (stepped kt))
 
 records-again : tie.Need-records-again Inv-records μ-records Inv-images μ-images
 records-again c =
@@ -204,10 +208,10 @@ records-again c =
 add-i : tie.Need-add-i Inv-records μ-records Inv-images μ-images
 add-i c =
     let op = c .before .before .before in
-    omega (arith, start-of (images-of op) .pre .0 .few, row-at op .before .before .images-test .taken)
+    index-fits (start-of (images-of op) .pre .0 .few) (row-at op .before .before .images-test .taken)
 
 images-less : tie.Need-images-less Inv-records μ-records Inv-images μ-images
-images-less c = omega (arith, row-at (c .before .before .before) .before .before .images-test .taken)
+images-less c = index-falls (row-at (c .before .before .before) .before .before .images-test .taken)
 
 images-again : tie.Need-images-again Inv-records μ-records Inv-images μ-images
 images-again c =

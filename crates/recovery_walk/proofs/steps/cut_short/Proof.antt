@@ -7,7 +7,7 @@ use Rattle.recovery_walk.proofs.steps.cut_short.Statement.{statement}
 use Rattle.recovery_walk.proofs.steps.cut_short.Tie as tie
 
 is-live-requires : tie.Need-is-live-requires
-is-live-requires c κs = search needs
+is-live-requires c κs = tt
 
 add-result : tie.Need-add-result
 add-result c = search needs

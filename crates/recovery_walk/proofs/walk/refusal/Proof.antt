@@ -5,10 +5,10 @@ use Rattle.recovery_walk.proofs.walk.refusal.Statement.{statement}
 use Rattle.recovery_walk.proofs.walk.refusal.Tie as tie
 
 start-requires : tie.Need-start-requires
-start-requires c κs = search needs
+start-requires c κs = tt
 
 no-segments-requires : tie.Need-no-segments-requires
-no-segments-requires c κs = search needs
+no-segments-requires c κs = tt
 
 returns : tie.Need-returns
 returns c = cc

@@ -6,7 +6,7 @@ use Rattle.recovery_walk.proofs.walk.settled.Statement.{statement}
 use Rattle.recovery_walk.proofs.walk.settled.Tie as tie
 
 refusal-requires : tie.Need-refusal-requires
-refusal-requires c κs = search needs
+refusal-requires c κs = tt
 
 returns : tie.Need-returns
 returns c = rw (ne-eqb _ _ (c .before .if1 .taken)) (c .refusal .ensures)

@@ -6,7 +6,7 @@ use mathlib.Core.Path.{_≡_, refl, sym, ap, _∙_}
 use mathlib.Core.Logic.{⊎-elim}
 use mathlib.Core.List.{List}
 use mathlib.Core.Bool.{true, false}
-use Prim.Native.Nat.{ℕ, _+_, _-_, _*_, _^_, _≤_}
+use Prim.Native.Nat.{ℕ, _+_, _-_, _*_, _^_, _≤_, _<_}
 use lib.ListN.{length, take}
 use Rattle.recovery_walk.specs.declared.ImageRow.{ImageRow}
 use Rattle.recovery_walk.specs.declared.Step.the-variants.{Next, Fault}
@@ -14,6 +14,8 @@ use Rattle.recovery_walk.specs.Step.{recordStep, moreOf, gapOf}
 use Rattle.recovery_walk.specs.Images.{images, startOf, rowAt, refused, faultOf}
 use Rattle.recovery_walk.specs.Scan.{scannedOf, settledOf}
 use Rattle.recovery_walk.proofs.StepCases.{more-inside, step-moves, step-counts, step-number}
+use Rattle.recovery_walk.proofs.Bounds.{index-below, row-fits, segment-fits, index-fits, start-fits, end-fits, start-first}
+use Rattle.recovery_walk.proofs.Bounds.{still-small, index-falls, place-falls, gap-some, fault-some}
 use Rattle.recovery_walk.proofs.RecordCases.{records-next, records-end, records-fault}
 use Rattle.recovery_walk.proofs.ImagesTurn.{AtImages, AtRecords, partOf, part-size, at-first, settled-bad, settled-good}
 use Rattle.recovery_walk.proofs.ImagesTurn.{turn-gapped, turn-fault, turn-next}
@@ -73,6 +75,10 @@ img-of op = let a = start-of (images-of op) .args in partOf (a .area .now) (a .c
 -- an array that came by value has its length
 length-at : (st : Start) → length (st .args .t4) ≡ 64
 length-at st = search needs
+
+-- a slice's length is a number of 64 bits
+area-at : (st : Start) → length (st .args .area .now) < 2 ^ 64
+area-at st = omega (arith, st .good)
 
 -- the image lies in the area, is as long as its row says, and no longer than a slot may be
 within-at : (sk : Known)
@@ -150,7 +156,7 @@ left-at le =
       before = record { before = record { before = record { before = im; images-test = w .0 }; row = w .1 }; gapped = w .2 };
       if1 = w .3;
     } in
-    settled-bad _ _ _ _ _ _ (st .pre .few) (length-at st) _ _ _ (λ z. omega (arith, w .5)) (ap refused (w .5) ∙ left-gapped th))
+    settled-bad _ _ _ _ _ _ (st .pre .few) (length-at st) _ _ _ (gap-some (w .5)) (ap refused (w .5) ∙ left-gapped th))
     (λ w.
     let op : Opened = record {
       before = record {
@@ -178,15 +184,15 @@ left-at le =
       };
       number = w .13;
     } in
-    settled-bad _ _ _ _ _ _ (st .pre .few) (length-at st) _ _ _ (λ z. omega (arith, w .15, step-number _ _ _ _ _ (fault-at nu) .low))
+    settled-bad _ _ _ _ _ _ (st .pre .few) (length-at st) _ _ _ (fault-some (w .15) (step-number _ _ _ _ _ (fault-at nu) .low))
     (ap refused (w .15) ∙ left-fault nu)))
     (le .images-test .came)
 
 no-segments-requires : tie.Need-no-segments-requires Inv-records μ-records Inv-images μ-images
-no-segments-requires c κs = search needs
+no-segments-requires c κs = tt
 
 start-requires : tie.Need-start-requires Inv-records μ-records Inv-images μ-images
-start-requires c κs = search needs
+start-requires c κs = tt
 
 images-holds : tie.Need-images-holds Inv-records μ-records Inv-images μ-images
 images-holds c =
@@ -196,64 +202,64 @@ images-holds c =
     (at-first (a .area .now) (a .c) (a .count) (a .s) (a .e) (a .t4) (st .pre .few) (length-at st))
 
 mul-row : tie.Need-mul-row Inv-records μ-records Inv-images μ-images
-mul-row c = omega (arith, start-of (c .before) .pre .few)
+mul-row c = row-fits (start-of (c .before) .pre .few) (c .images-test .taken)
 
 array-copy-out-row : tie.Need-array-copy-out-row Inv-records μ-records Inv-images μ-images
-array-copy-out-row c = omega (arith, start-of (c .before) .pre .few)
+array-copy-out-row c = index-below (start-of (c .before) .pre .few) (c .images-test .taken)
 
 gapped-requires : tie.Need-gapped-requires Inv-records μ-records Inv-images μ-images
-gapped-requires c κs = search needs
+gapped-requires c κs = tt
 
 cast-from : tie.Need-cast-from Inv-records μ-records Inv-images μ-images
 cast-from c = search needs
 
 mul-from : tie.Need-mul-from Inv-records μ-records Inv-images μ-images
-mul-from c = omega (arith, within-at c, start-of (in-of c .before) .good)
+mul-from c = start-fits _ _ (within-at c) (area-at (start-of (in-of c .before)))
 
 add-img : tie.Need-add-img Inv-records μ-records Inv-images μ-images
-add-img c = omega (arith, within-at c, start-of (in-of c .before) .good)
+add-img c = end-fits _ _ (within-at c) (area-at (start-of (in-of c .before)))
 
 sub-img : tie.Need-sub-img Inv-records μ-records Inv-images μ-images
-sub-img c = omega arith
+sub-img c = start-first _ _
 
 part-img-start : tie.Need-part-img-start Inv-records μ-records Inv-images μ-images
-part-img-start c = omega arith
+part-img-start c = start-first _ _
 
 part-img-end : tie.Need-part-img-end Inv-records μ-records Inv-images μ-images
 part-img-end c = within-at c
 
 opened-requires : tie.Need-opened-requires Inv-records μ-records Inv-images μ-images
-opened-requires c κs = search needs
+opened-requires c κs = tt
 
 records-holds : tie.Need-records-holds Inv-records μ-records Inv-images μ-images
 records-holds c =
     record { calm = refl; counted = rw (c .opened .ensures) (images-of c .images .inv .counted); so-far = refl }
 
 more-requires : tie.Need-more-requires Inv-records μ-records Inv-images μ-images
-more-requires c κs = search needs
+more-requires c κs = tt
 
 record-step-requires : tie.Need-record-step-requires Inv-records μ-records Inv-images μ-images
 record-step-requires c κs =
     let re = c .before .before in
     record {
       inside = more-inside _ _ (going c);
-      room = omega (arith, len-at (re .before), small-at (re .before));
+      room = still-small (len-at (re .before)) (small-at (re .before));
       counted = re .records .inv .counted;
     }
 
 enum-known-step : tie.Need-enum-known-step Inv-records μ-records Inv-images μ-images
-enum-known-step c = search needs
+enum-known-step c = c .match .keys1
 
 enum-told : tie.Need-enum-told Inv-records μ-records Inv-images μ-images
-enum-told c = search needs
+enum-told c = c .match .keys2
 
 number-requires : tie.Need-number-requires Inv-records μ-records Inv-images μ-images
-number-requires c κs = search needs
+number-requires c κs = tt
 
 records-less : tie.Need-records-less Inv-records μ-records Inv-images μ-images
 records-less c =
     let th = c .before .before .before .before in
-    omega (arith, more-inside _ _ (going th), step-moves _ _ _ _ _ (stepped c))
+    place-falls (more-inside _ _ (going th)) (step-moves _ _ _ _ _ (stepped c))
 
 records-again : tie.Need-records-again Inv-records μ-records Inv-images μ-images
 records-again c =
@@ -266,25 +272,25 @@ records-again c =
     }
 
 filled-requires : tie.Need-filled-requires Inv-records μ-records Inv-images μ-images
-filled-requires c κs = search needs
+filled-requires c κs = tt
 
 mul-segs : tie.Need-mul-segs Inv-records μ-records Inv-images μ-images
 mul-segs c =
     let op = c .before .before .before .before in
-    omega (arith, start-of (images-of op) .pre .few, in-of (known-of op) .images-test .taken)
+    segment-fits (start-of (images-of op) .pre .few) (in-of (known-of op) .images-test .taken)
 
 array-set-from-segs : tie.Need-array-set-from-segs Inv-records μ-records Inv-images μ-images
 array-set-from-segs c =
     let op = c .before .before .before .before in
-    omega (arith, start-of (images-of op) .pre .few, in-of (known-of op) .images-test .taken)
+    index-below (start-of (images-of op) .pre .few) (in-of (known-of op) .images-test .taken)
 
 add-i : tie.Need-add-i Inv-records μ-records Inv-images μ-images
 add-i c =
     let op = c .before .before .before .before in
-    omega (arith, start-of (images-of op) .pre .few, in-of (known-of op) .images-test .taken)
+    index-fits (start-of (images-of op) .pre .few) (in-of (known-of op) .images-test .taken)
 
 images-less : tie.Need-images-less Inv-records μ-records Inv-images μ-images
-images-less c = omega arith
+images-less c = index-falls (in-of (known-of (c .before .before .before .before)) .images-test .taken)
 
 images-again : tie.Need-images-again Inv-records μ-records Inv-images μ-images
 images-again c =
@@ -298,7 +304,7 @@ images-again c =
     (re .records .inv .counted) (re .records .inv .calm)
 
 settled-requires : tie.Need-settled-requires Inv-records μ-records Inv-images μ-images
-settled-requires c κs = search needs
+settled-requires c κs = tt
 
 returns : tie.Need-returns Inv-records μ-records Inv-images μ-images
 returns c = c .settled .ensures ∙ left-at (c .before)
