@@ -54,15 +54,15 @@ use denote.Triple.Table.{entered, cited}
 use denote.Triple.Walked.{says, Stays, stay-dropped, walkOf, goes-dropped, Walks, ends-at, walked, walk-meets}
 use denote.Exit.{yes}
 use denote.Signature.{Slot, plain, shrSliceOf}
-use Rattle.recovery_walk.specs.declared.ImageRow.{ImageRow}
-use Rattle.recovery_walk.specs.Images.{noRow}
-use Rattle.recovery_walk.proofs.ImageRow as S
-use Rattle.recovery_walk.proofs.ImageRow.Laws as S′
-use Rattle.recovery.specs.Rows.{noRows, tooMany, putRow, rowsOf}
-use Rattle.recovery.specs.declared.Rows.{Rows}
+use Rattle.image_rows.specs.declared.ImageRow.{ImageRow}
+use Rattle.image_rows.specs.Rows.{noRow}
+use Rattle.image_rows.proofs.ImageRow as S
+use Rattle.image_rows.proofs.ImageRow.Laws as S′
+use Rattle.image_rows.specs.Rows.{noRows, tooMany, putRow, rowsOf}
+use Rattle.image_rows.specs.declared.Rows.{Rows}
 use Rattle.recovery.proofs.Fold.{upTo, up-zero, up-next, up-all, up-many}
-use Rattle.recovery.proofs.Rows as T
-use Rattle.recovery.proofs.Rows.Laws as T′
+use Rattle.image_rows.proofs.Rows as T
+use Rattle.image_rows.proofs.Rows.Laws as T′
 use Rattle.recovery.proofs.no_rows as none
 use Rattle.recovery.proofs.no_rows.Symbol as none-def
 use Rattle.recovery.proofs.no_rows.Symbol.{name as #none}
