@@ -11,7 +11,7 @@ ghost use Rattle.lists.specs.Splice.{part, splice};
 ghost use Rattle.little_endian.specs.LittleEndian.{leBytes};
 ghost use Rattle.keys.specs.Sort.{any};
 ghost use Rattle.delta.specs.Table.{rowsOf};
-ghost use Rattle.delta_encode.specs.Bytes.{outside, eraseBytes, reinstateBytes, concat, encodedOf, afterOf, Sized};
+ghost use Rattle.delta_encode.specs.Bytes.{encodedNumber, encodedLength, outside, eraseBytes, reinstateBytes, concat, encodedOf, afterOf, Sized};
 
 // What encoding comes to: the length written, or a refusal.
 pub enum Encoded {
@@ -19,6 +19,30 @@ pub enum Encoded {
     Outside,
     Duplicate,
     Short,
+}
+
+// Document 01's number of an encoding's answer, 0 where it is accepted.
+pub fn encoded_number(answer: Encoded) -> u32
+    ensures { λ r. ⌜ r ≡ encodedNumber answer ⌝ }
+{
+    match answer {
+        Encoded::Written(_) => 0,
+        Encoded::Outside => 43,
+        Encoded::Duplicate => 42,
+        Encoded::Short => 44,
+    }
+}
+
+// The length that was written, 0 beside a refusal.
+pub fn encoded_length(answer: Encoded) -> u64
+    ensures { λ r. ⌜ r ≡ encodedLength answer ⌝ }
+{
+    match answer {
+        Encoded::Written(n) => n as u64,
+        Encoded::Outside => 0,
+        Encoded::Duplicate => 0,
+        Encoded::Short => 0,
+    }
 }
 
 // How many rows each group has, and the bytes in all.

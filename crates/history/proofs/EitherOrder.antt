@@ -9,7 +9,7 @@ use Rattle.seglog.specs.Log.{View}
 use Rattle.seglog.specs.declared.Log.{Log}
 use Rattle.seglog.specs.declared.Segment.{Segment}
 use Rattle.seglog_prune.specs.Prune.{pruneRecentOf, pruned}
-use Rattle.recovery_walk.specs.declared.ImageRow.{ImageRow}
+use Rattle.image_rows.specs.declared.ImageRow.{ImageRow}
 use Rattle.recovery.specs.Recovery.{recovered}
 use Rattle.history.specs.Corollaries.{PrunesInEitherOrder}
 use Rattle.history.specs.Demand.{AnyOrder, rowsFor, idsIn, prunesTo}

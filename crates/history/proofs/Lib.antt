@@ -24,4 +24,5 @@ pub mod Whole
 pub mod Unchanged
 pub mod Twice
 pub mod EitherOrder
+pub mod Crossed
 pub mod Example

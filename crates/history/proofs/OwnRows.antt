@@ -12,7 +12,7 @@ use borrow.Author.Tests.{lt-ltb, le-leb, ne-eqb, eq-eqb}
 use Rattle.lists.specs.Choice.{pick}
 use Rattle.seglog.specs.Log.{freshIn, apartOf}
 use Rattle.seglog.specs.declared.Segment.{Segment}
-use Rattle.recovery.specs.ImageRows.{freshRow, rowsApart, rowsInside, lowestZero, oneApart}
+use Rattle.image_rows.specs.ImageRows.{freshRow, rowsApart, rowsInside, lowestZero, oneApart}
 use Rattle.history.specs.Demand.{rowsFor}
 use Rattle.history.proofs.Chain.{Chain}
 use Rattle.history.proofs.Scans.{Has}

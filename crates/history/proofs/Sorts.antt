@@ -10,8 +10,8 @@ use lib.ListN.{length, length-append}
 use borrow.Author.Tests.{le-leb, lt-leb, eqb-false, ne-eqb}
 use Rattle.lists.specs.Choice.{pick}
 use Rattle.seglog.proofs.Bools.{and-both, both-and, clash}
-use Rattle.recovery_walk.specs.declared.ImageRow.{ImageRow}
-use Rattle.recovery.specs.ImageRows.{insertRow, sortRows, rowsInside, freshRow, rowsApart}
+use Rattle.image_rows.specs.declared.ImageRow.{ImageRow}
+use Rattle.image_rows.specs.ImageRows.{insertRow, sortRows, rowsInside, freshRow, rowsApart}
 use Rattle.history.specs.Demand.{AnyOrder}
 
 -- ids rise, from lo on

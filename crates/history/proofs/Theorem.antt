@@ -10,7 +10,7 @@ use Rattle.seglog.specs.Log.{View, logOf}
 use Rattle.seglog.specs.declared.Log.{Log}
 use Rattle.seglog.specs.declared.Segment.{Segment}
 use Rattle.seglog_prune.specs.Prune.{oldestLog, pruned, recentLog, Pruning, pruneAnswer}
-use Rattle.recovery_walk.specs.declared.ImageRow.{ImageRow}
+use Rattle.image_rows.specs.declared.ImageRow.{ImageRow}
 use Rattle.recovery.specs.Recovery.{Recovery, recovered}
 use Rattle.history.specs.Demand.{idsIn, Delivers, recovering, prunesTo, AnyOrder, rowsFor, listed, Demand3, earlier}
 use Rattle.history.specs.History.{run, oldest, recent, step, afterPrune, Held, refusalOf, appends, told, lastUnder, begun}

@@ -6,7 +6,7 @@ use Prim.Native.Nat.{ℕ, _<_, _≤_, _*_}
 use lib.ListN.{length}
 use Rattle.seglog.specs.Log.{View}
 use Rattle.seglog_prune.specs.Prune.{pruned, pruneRecentOf}
-use Rattle.recovery_walk.specs.declared.ImageRow.{ImageRow}
+use Rattle.image_rows.specs.declared.ImageRow.{ImageRow}
 use Rattle.recovery.specs.Recovery.{recovered, recoveryAnswer, recoveryIndex}
 use Rattle.history.specs.Corollaries.{SameAsEarlier, LaterChangesNothing}
 use Rattle.history.specs.Demand.{AnyOrder, rowsFor, listed, idsIn, recovering, earlier}

@@ -16,8 +16,8 @@ use Rattle.recovery_walk.proofs.Count.{walk-counts}
 use Rattle.recovery_walk.specs.Images.{startOf, images}
 use Rattle.recovery_walk.specs.Rows.{rowsAll, penOf}
 use Rattle.recovery_walk.specs.Scan.{scanOf, judged}
-use Rattle.recovery_walk.specs.declared.ImageRow.{ImageRow}
-use Rattle.recovery.specs.ImageRows.{sortRows, rowsFit, lowestZero, oneApart}
+use Rattle.image_rows.specs.declared.ImageRow.{ImageRow}
+use Rattle.image_rows.specs.ImageRows.{sortRows, rowsFit, lowestZero, oneApart}
 use Rattle.recovery.specs.Recovery.{recoveryOf, recovered, keptOf, closedAt, outcomeOf, oneZero}
 use Rattle.history.specs.Demand.{idsIn, rowsFor, AnyOrder}
 use Rattle.history.specs.Recorded.{recordsFrom}

@@ -13,8 +13,8 @@ use Rattle.seglog.specs.Log.{View, logOf, emptyOf, sizesOf}
 use Rattle.seglog.specs.New.{roomyOf}
 use Rattle.seglog.specs.declared.Segment.{Segment}
 use Rattle.seglog_prune.specs.Prune.{dropOld, dropNew, keepAt, pruneOldestOf, pruned, startedAt, pruneRecentOf}
-use Rattle.recovery_walk.specs.declared.ImageRow.{ImageRow}
-use Rattle.recovery.specs.ImageRows.{rowsFit, rowsInside, rowsApart, sortRows, lowestZero, oneApart}
+use Rattle.image_rows.specs.declared.ImageRow.{ImageRow}
+use Rattle.image_rows.specs.ImageRows.{rowsFit, rowsInside, rowsApart, sortRows, lowestZero, oneApart}
 use Rattle.recovery.specs.Recovery.{recoveryAnswer, recoveryOf, recovered, oneZero}
 use Rattle.history.specs.Corollaries.{liveCount, WholeRangeGivesTheLog}
 use Rattle.history.specs.Demand.{AnyOrder, rowsFor, idsIn, recovering, listed}

@@ -9,9 +9,9 @@ use lib.Dec.{eqb}
 use Rattle.lists.specs.Choice.{pick}
 use Rattle.seglog.specs.declared.Log.{Log}
 use Rattle.seglog.specs.New.{newOf}
-use Rattle.recovery_walk.specs.declared.ImageRow.{ImageRow}
+use Rattle.image_rows.specs.declared.ImageRow.{ImageRow}
 use Rattle.recovery.specs.Recovery.{Recovery, recoveryAnswer, recoveryArea, recoveryIndex}
-use Rattle.history.specs.History.{Call, oldest, recent, Held, refusalOf, run, told}
+use Rattle.history.specs.History.{Call, oldest, recent, Held, step, refusalOf, run, told}
 use Rattle.history.specs.Demand.{AnyOrder, rowsFor, listed, recovering, idsIn, prunesTo, questionAt, payloadAt, earlier, later, Asked}
 
 -- ---- the later data changes nothing
@@ -101,3 +101,15 @@ abbrev pub PrunesInEitherOrder : Type 0
 PrunesInEitherOrder =
     (k c m : ℕ) (area : List ℕ) (calls : List Call) → newOf k c m (length area) .refusal ≡ 0 → (t : Held) → t ≡ earlier k c m area calls
     → (s e : ℕ) → 0 < s → s ≤ e → t .log .start ≤ s → e ≤ t .log .end → run t (recent e ∷ oldest s ∷ []) ≡ run t (prunesTo s e)
+
+-- where e lies before s the order tells: prune oldest to s is carried out, and prune recent to e after it is refused with 9
+pub record SecondRefused (t : Held) (s e : ℕ) : Type 0 where
+  pub first-accepts : refusalOf t (oldest s) ≡ 0
+  pub second-refuses : refusalOf (step t (oldest s)) (recent e) ≡ 9
+  pub as-the-first-left-it : run t (prunesTo s e) ≡ step t (oldest s)
+
+-- so it is after any calls from a new log, for s and e inside the live range
+abbrev pub EndsCrossed : Type 0
+EndsCrossed =
+    (k c m : ℕ) (area : List ℕ) (calls : List Call) → newOf k c m (length area) .refusal ≡ 0 → (t : Held) → t ≡ earlier k c m area calls
+    → (s e : ℕ) → t .log .start ≤ e → e < s → s ≤ t .log .end → 0 < e → SecondRefused t s e

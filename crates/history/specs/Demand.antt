@@ -8,7 +8,7 @@ use lib.ListN.{length, getD, take, drop}
 use Rattle.seglog.specs.declared.Segment.{Segment}
 use Rattle.seglog.specs.declared.Log.{Log}
 use Rattle.seglog.specs.New.{newOf}
-use Rattle.recovery_walk.specs.declared.ImageRow.{ImageRow}
+use Rattle.image_rows.specs.declared.ImageRow.{ImageRow}
 use Rattle.recovery.specs.Recovery.{Recovery, recoveryOf, recoveryAnswer, recoveryArea, recoveryIndex}
 use Rattle.payload.specs.declared.RowAnswer.{RowAnswer}
 use Rattle.payload.specs.declared.RowAnswer.the-variants.{Good}

@@ -59,14 +59,14 @@ part-refused l slot offset n Outside h = refl
 
 -- a name that is not written: no length
 pub name-write-refused : (answer : Formatted) → let r = writtenName answer in Refused (r .refusal) → r .length ≡ 0
-unfolding writtenName formatRefusal formatLength
+unfolding writtenName
 name-write-refused (Length n) h = absurd (h refl)
 name-write-refused EmptyPrefix h = refl
 name-write-refused BufferShort h = refl
 
 -- a name that is not read: id 0
 pub name-parse-refused : (answer : Parsed) → let r = parsedName answer in Refused (r .refusal) → r .id ≡ 0
-unfolding parsedName parseRefusal parseId
+unfolding parsedName
 name-parse-refused (Parsed.Id v) h = absurd (h refl)
 name-parse-refused Parsed.EmptyPrefix h = refl
 name-parse-refused Parsed.PrefixMissing h = refl

@@ -1,13 +1,12 @@
 // Deltas across the C interface: the library's table as rows of numbers and back, and the answers as numbers.
 ghost use mathlib.Core.Path.{_≡_};
-ghost use Rattle.delta.specs.Reading.{decodingNumber, decodingConsumed, decodedOf};
+ghost use Rattle.delta.specs.Reading.{decodedOf};
 ghost use Rattle.delta_encode.specs.Bytes.{encodedOf, afterOf};
 ghost use Rattle.iflughan.specs.Deltas.{tableIn, markOf, tableOut, decodedDelta, writtenDelta};
 use crate::DecodedDelta;
 use crate::Delta;
 use crate::DeltaRow;
 use crate::Written;
-use delta::Decoding;
 use delta::Row;
 use delta::Table;
 use delta_encode::Encoded;
@@ -88,55 +87,14 @@ fn table_out(t: Table) -> Delta
     }
 }
 
-// Document 01's number of a decoding's answer.
-fn decoding_number(answer: Decoding) -> u32
-    ensures { λ r. ⌜ r ≡ decodingNumber answer ⌝ }
-{
-    match answer {
-        Decoding::Consumed(_) => 0,
-        Decoding::EndsEarly => 40,
-        Decoding::OverLimit => 41,
-        Decoding::Duplicate => 42,
-    }
-}
-
-// The bytes that a decoding's answer says were consumed.
-fn decoding_consumed(answer: Decoding) -> usize
-    ensures { λ r. ⌜ r ≡ decodingConsumed answer ⌝ }
-{
-    match answer {
-        Decoding::Consumed(n) => n,
-        Decoding::EndsEarly => 0,
-        Decoding::OverLimit => 0,
-        Decoding::Duplicate => 0,
-    }
-}
-
 // The answer of `encode` as numbers.
 fn written_delta(answer: Encoded) -> Written
     ensures { λ r. ⌜ r ≡ writtenDelta answer ⌝ }
 {
-    match answer {
-        Encoded::Written(n) => Written {
-            refusal: 0,
-            reserved: 0,
-            length: n as u64,
-        },
-        Encoded::Outside => Written {
-            refusal: 43,
-            reserved: 0,
-            length: 0,
-        },
-        Encoded::Duplicate => Written {
-            refusal: 42,
-            reserved: 0,
-            length: 0,
-        },
-        Encoded::Short => Written {
-            refusal: 44,
-            reserved: 0,
-            length: 0,
-        },
+    Written {
+        refusal: delta_encode::encoded_number(answer),
+        reserved: 0,
+        length: delta_encode::encoded_length(answer),
     }
 }
 
@@ -149,9 +107,9 @@ pub extern "C" fn iflughan_delta_decode(input: &[u8]) -> DecodedDelta
     let answer = decoded.answer;
     let table = decoded.table;
     DecodedDelta {
-        refusal: decoding_number(answer),
+        refusal: delta::decoding_number(answer),
         reserved: 0,
-        consumed: decoding_consumed(answer) as u64,
+        consumed: delta::decoding_consumed(answer),
         table: table_out(table),
     }
 }

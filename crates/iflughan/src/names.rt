@@ -13,22 +13,10 @@ use segment_filename::Parsed;
 fn written_name(answer: Formatted) -> Written
     ensures { λ r. ⌜ r ≡ writtenName answer ⌝ }
 {
-    match answer {
-        Formatted::Length(n) => Written {
-            refusal: 0,
-            reserved: 0,
-            length: n as u64,
-        },
-        Formatted::EmptyPrefix => Written {
-            refusal: 30,
-            reserved: 0,
-            length: 0,
-        },
-        Formatted::BufferShort => Written {
-            refusal: 36,
-            reserved: 0,
-            length: 0,
-        },
+    Written {
+        refusal: segment_filename::formatted_number(answer),
+        reserved: 0,
+        length: segment_filename::formatted_length(answer),
     }
 }
 
@@ -36,14 +24,9 @@ fn written_name(answer: Formatted) -> Written
 fn parsed_name(answer: Parsed) -> ParsedName
     ensures { λ r. ⌜ r ≡ parsedName answer ⌝ }
 {
-    match answer {
-        Parsed::Id(v) => ParsedName { refusal: 0, id: v },
-        Parsed::EmptyPrefix => ParsedName { refusal: 30, id: 0 },
-        Parsed::PrefixMissing => ParsedName { refusal: 31, id: 0 },
-        Parsed::SuffixMissing => ParsedName { refusal: 32, id: 0 },
-        Parsed::DotMissing => ParsedName { refusal: 33, id: 0 },
-        Parsed::NotTenBytes => ParsedName { refusal: 34, id: 0 },
-        Parsed::NotU32 => ParsedName { refusal: 35, id: 0 },
+    ParsedName {
+        refusal: segment_filename::parsed_number(answer),
+        id: segment_filename::parsed_id(answer),
     }
 }
 

@@ -6,8 +6,8 @@ ghost use Rattle.recovery.specs.Recovery.{recoveryOf};
 ghost use Rattle.iflughan.specs.Recover.{recoveredOut, Recovers, partOf};
 use crate::Part;
 use crate::Recovered;
+use image_rows::ImageRow;
 use payload::RowAnswer;
-use recovery_walk::ImageRow;
 use seglog::Log;
 
 // The answer of `recover`, with the padding named.

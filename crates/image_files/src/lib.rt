@@ -1,7 +1,7 @@
 // Segment images as files: FOLDER/PREFIX.0000000001.log holds the first `size` bytes of a segment's slot, as the original's files do.
 // What a file holds is no part of any contract. Each function says by its answer whether the calls worked.
-use recovery::Rows;
-use recovery_walk::ImageRow;
+use image_rows::ImageRow;
+use image_rows::Rows;
 use seglog::Log;
 
 mod files;

@@ -1,6 +1,6 @@
 // The slots that images need, and the first and the last record that they hold.
+use image_rows::Rows;
 use record::HeaderAnswer;
-use recovery::Rows;
 use seglog::Log;
 
 // The slot that an image of this size needs: whole pages, one at least; 2^31 where no slot is large enough.

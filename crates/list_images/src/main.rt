@@ -12,7 +12,7 @@ use report::say;
 const AREA: usize = 4194304;
 
 // Recovers from the images in the area, and lists what they hold.
-fn list(area: &mut [u8], c: u64, images: recovery::Rows, s: u64, e: u64) {
+fn list(area: &mut [u8], c: u64, images: image_rows::Rows, s: u64, e: u64) {
     let mut index = [0u64; 4096];
     let k = images.count as u64;
     let recovered = recovery::recover_rows(k, c, c, area, images, s, e, &mut index);

@@ -1,7 +1,7 @@
 // What the programs print of a log: the line of its live range and one line an index row, as specimen 13 has them; and the image rows
 // of a log's segments. What is written to a descriptor is no part of any contract.
-use recovery::Rows;
-use recovery_walk::ImageRow;
+use image_rows::ImageRow;
+use image_rows::Rows;
 use report::number;
 use report::say;
 use seglog::Log;

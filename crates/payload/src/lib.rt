@@ -5,11 +5,10 @@ ghost use mathlib.Core.List.{[]};
 ghost use Prim.Native.Nat.{_+_, _*_};
 ghost use Rattle.lists.specs.Splice.{part};
 ghost use Rattle.delta.specs.Table.{tableOf};
-ghost use Rattle.delta.specs.Reading.{decodedOf, decodingNumber, decodingConsumed};
+ghost use Rattle.delta.specs.Reading.{decodedOf};
 ghost use Rattle.payload.specs.Payload.{rowNumber, outsideOf, rowQuestion, GoodRow, payloadOf};
 ghost use Rattle.payload.specs.PayloadDelta.{noDelta, deltaAnswer, payloadDelta};
 use delta::Decoded;
-use delta::Decoding;
 use delta::Row;
 use delta::Table;
 use seglog::Log;
@@ -121,29 +120,6 @@ fn no_delta(number: u32) -> PayloadDelta
     }
 }
 
-// Document 01's number of the decoder's answer, and the bytes that it consumed.
-fn decoding_number(answer: Decoding) -> u32
-    ensures { λ r. ⌜ r ≡ decodingNumber answer ⌝ }
-{
-    match answer {
-        Decoding::Consumed(_) => 0,
-        Decoding::EndsEarly => 40,
-        Decoding::OverLimit => 41,
-        Decoding::Duplicate => 42,
-    }
-}
-
-fn decoding_consumed(answer: Decoding) -> u64
-    ensures { λ r. ⌜ r ≡ decodingConsumed answer ⌝ }
-{
-    match answer {
-        Decoding::Consumed(n) => n as u64,
-        Decoding::EndsEarly => 0,
-        Decoding::OverLimit => 0,
-        Decoding::Duplicate => 0,
-    }
-}
-
 // The decoder's answer.
 fn delta_answer(decoded: Decoded) -> PayloadDelta
     ensures { λ r. ⌜ r ≡ deltaAnswer decoded ⌝ }
@@ -151,8 +127,8 @@ fn delta_answer(decoded: Decoded) -> PayloadDelta
     let answer = decoded.answer;
     let table = decoded.table;
     PayloadDelta {
-        refusal: decoding_number(answer),
-        consumed: decoding_consumed(answer),
+        refusal: delta::decoding_number(answer),
+        consumed: delta::decoding_consumed(answer),
         table,
     }
 }

@@ -10,7 +10,7 @@ use Rattle.lists.specs.Choice.{pick}
 use Rattle.seglog.specs.declared.Segment.{Segment}
 use Rattle.seglog.specs.Log.{headOf, frontOf}
 use Rattle.seglog.specs.New.{roomyOf}
-use Rattle.recovery_walk.specs.declared.ImageRow.{ImageRow}
+use Rattle.image_rows.specs.declared.ImageRow.{ImageRow}
 use Rattle.recovery_walk.specs.declared.Scan.{Scan}
 use Rattle.recovery_walk.specs.Images as Walk
 use Rattle.recovery_walk.specs.Images.{Outcome, startOf}
@@ -18,7 +18,7 @@ use Rattle.recovery_walk.specs.Rows.{rowsAll, penOf}
 use Rattle.recovery_walk.specs.Scan.{scanOf, indexOf}
 use Rattle.recovery_walk.specs.Headers.{EachWalked, SameHeader}
 use Rattle.recovery_walk.proofs.Depend.{ScansAgree, scan-depends}
-use Rattle.recovery.specs.ImageRows.{sortRows, rowsFit, lowestZero, oneApart}
+use Rattle.image_rows.specs.ImageRows.{sortRows, rowsFit, lowestZero, oneApart}
 use Rattle.recovery.specs.Recovery.{Recovery, refused, recoveryOf, recoveryAnswer, recoveryIndex, oneZero, outcomeOf, closedOf, keptOf}
 use Rattle.recovery.specs.Depend.{Agree, DependsOnHeaders}
 

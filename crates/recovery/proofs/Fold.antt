@@ -9,10 +9,10 @@ use lib.ListN.{length, getD, take, drop, set, replicate, length-take}
 use lib.Seq.{take-suc, take-all, append-snoc, set-at}
 use borrow.Author.Tests.{le-leb, lt-leb}
 use Rattle.lists.specs.Choice.{pick}
-use Rattle.recovery_walk.specs.declared.ImageRow.{ImageRow}
-use Rattle.recovery_walk.specs.Images.{noRow}
-use Rattle.recovery.specs.declared.Rows.{Rows}
-use Rattle.recovery.specs.Rows.{noRows, tooMany, rowsOf, putRow}
+use Rattle.image_rows.specs.declared.ImageRow.{ImageRow}
+use Rattle.image_rows.specs.Rows.{noRow}
+use Rattle.image_rows.specs.declared.Rows.{Rows}
+use Rattle.image_rows.specs.Rows.{noRows, tooMany, rowsOf, putRow}
 
 -- the first i rows, with zeros behind them
 unfoldable pub upTo : List ImageRow → ℕ → Rows

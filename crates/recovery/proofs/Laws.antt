@@ -33,7 +33,7 @@ use Rattle.seglog.specs.New.{roomyOf}
 use Rattle.seglog.proofs.Bools.{and-both, both-and}
 use Rattle.seglog.proofs.Fit.{sizes-are}
 use Rattle.seglog.proofs.View.{plain-log, view-log, head-snoc}
-use Rattle.recovery_walk.specs.declared.ImageRow.{ImageRow}
+use Rattle.image_rows.specs.declared.ImageRow.{ImageRow}
 use Rattle.recovery_walk.specs.declared.Scan.{Scan}
 use Rattle.recovery_walk.specs.Images as Walk
 use Rattle.recovery_walk.specs.Images.{Outcome, images, startOf}
@@ -41,7 +41,7 @@ use Rattle.recovery_walk.specs.Rows.{rowsAll, penOf, RowIds}
 use Rattle.recovery_walk.specs.Scan.{scanOf}
 use Rattle.recovery_walk.proofs.RowIds.{Accepted, scan-accepted, scan-rows}
 use Rattle.recovery.specs.declared.Recovered.{Recovered}
-use Rattle.recovery.specs.ImageRows.{sortRows, rowsFit, lowestZero, oneApart}
+use Rattle.image_rows.specs.ImageRows.{sortRows, rowsFit, lowestZero, oneApart}
 use Rattle.recovery.specs.Recovery.{
   Recovery,
   refused,
@@ -56,9 +56,11 @@ use Rattle.recovery.specs.Recovery.{
   RecoveryDid,
 }
 use Rattle.recovery.specs.Kept.{closedView}
-use Rattle.recovery.proofs.Order.{sort-inside, sort-apart}
+use Rattle.image_rows.proofs.Order.{sort-inside, sort-apart}
+use Rattle.image_rows.proofs.Ids.{Ids, ids-are}
+use Rattle.image_rows.proofs.Ways.{Fit, fit-is}
 use Rattle.recovery.proofs.Shaped.{images-slots, slots-apart, kept-apart, closed-shaped}
-use Rattle.recovery.proofs.Ways.{Roomy, roomy-is, Fit, fit-is, Ids, ids-are}
+use Rattle.recovery.proofs.Ways.{Roomy, roomy-is}
 use Rattle.recovery.proofs.Scanned.{Keeps, scan-keeps, runs-last}
 
 -- ---- two answers that the contract of `recover` allows are equal

@@ -1,9 +1,6 @@
 pub mod Fold
-pub mod Insert
-pub mod Fit
 pub mod Walked
 pub mod Keep
-pub mod Order
 pub mod Cut
 pub mod Shaped
 pub mod Ways

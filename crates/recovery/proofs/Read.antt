@@ -7,13 +7,13 @@ use native.Mathlib.Omega.{arith}
 use lib.ListN.{length, take, replicate}
 use lib.Seq.{take-at, take-length, length-take-le}
 use Rattle.lists.proofs.Cases.{by-order}
-use Rattle.recovery_walk.specs.declared.ImageRow.{ImageRow}
-use Rattle.recovery_walk.specs.Images.{noRow}
-use Rattle.recovery.specs.declared.Rows.{Rows}
-use Rattle.recovery.specs.ImageRows.{rowsFit}
-use Rattle.recovery.specs.Rows.{tooMany, rowsOf, listedOf}
+use Rattle.image_rows.specs.declared.ImageRow.{ImageRow}
+use Rattle.image_rows.specs.Rows.{noRow}
+use Rattle.image_rows.specs.declared.Rows.{Rows}
+use Rattle.image_rows.specs.ImageRows.{rowsFit}
+use Rattle.image_rows.specs.Rows.{tooMany, rowsOf, listedOf}
 use Rattle.recovery.specs.Recovery.{recoveryOf}
-use Rattle.recovery.proofs.Fit.{fit-many}
+use Rattle.image_rows.proofs.Tests.{fit-many}
 use Rattle.recovery.proofs.Fold.{upTo, up-all, up-many}
 
 -- few rows are those of their array

@@ -15,19 +15,20 @@ use Rattle.seglog.specs.Log.{noSegment, logOf, headOf}
 use Rattle.seglog.specs.New.{accepted}
 use Rattle.seglog.proofs.Bools.{clash}
 use Rattle.seglog.proofs.View.{entriesOf, head-snoc}
-use Rattle.recovery_walk.specs.declared.ImageRow.{ImageRow}
+use Rattle.image_rows.specs.declared.ImageRow.{ImageRow}
 use Rattle.recovery_walk.specs.declared.Scan.{Scan}
 use Rattle.recovery_walk.specs.declared.Scanned.{Scanned}
 use Rattle.recovery_walk.specs.Images as Walk
-use Rattle.recovery_walk.specs.Images.{Outcome, images, startOf, noRow, rowAt, WalkPre}
+use Rattle.recovery_walk.specs.Images.{Outcome, images, startOf, rowAt, WalkPre}
 use Rattle.recovery_walk.specs.Rows.{rowsAll, penOf}
 use Rattle.recovery_walk.specs.Scan.{judged, scanOf, scannedOf, indexOf, ScanDid}
 use Rattle.recovery_walk.proofs.ImageCases.{images-number}
 use Rattle.recovery_walk.proofs.Count.{walk-counts}
 use Rattle.recovery_walk.proofs.RowIds.{Accepted, scan-accepted}
 use Rattle.recovery.specs.declared.Recovered.{Recovered}
-use Rattle.recovery.specs.declared.Rows.{Rows}
-use Rattle.recovery.specs.ImageRows.{rowsInside}
+use Rattle.image_rows.specs.declared.Rows.{Rows}
+use Rattle.image_rows.specs.Rows.{noRow}
+use Rattle.image_rows.specs.ImageRows.{rowsInside}
 use Rattle.recovery.specs.Recovery.{
   refused,
   recovered,
@@ -41,11 +42,12 @@ use Rattle.recovery.specs.Recovery.{
   RecoveryDid,
 }
 use Rattle.recovery.specs.Kept.{ScanPre, closedView, ClosePre, CloseDid}
-use Rattle.recovery.proofs.Order.{inside-at}
-use Rattle.recovery.proofs.Walked.{HeadGood, Runs, IdsFrom, images-tell}
+use Rattle.image_rows.proofs.Order.{inside-at}
+use Rattle.image_rows.proofs.Ids.{IdsFrom, Ids, ids-are}
+use Rattle.recovery.proofs.Walked.{HeadGood, Runs, images-tell}
 use Rattle.recovery.proofs.Cut.{Whole, kept-empty, cut-whole}
 use Rattle.recovery.proofs.Shaped.{images-slots, slots-length}
-use Rattle.recovery.proofs.Ways.{Roomy, roomy-is, Ids, ids-are, did-refused}
+use Rattle.recovery.proofs.Ways.{Roomy, roomy-is, did-refused}
 
 -- what the walk asks of sorted rows in an array
 pub walk-pre : (area : List ℕ) (k c n : ℕ) (entries rs : List ImageRow) → k ≤ 64 → c ≤ 2147483648 → length area ≡ k * c → n ≤ 64

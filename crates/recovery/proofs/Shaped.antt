@@ -14,11 +14,11 @@ use Rattle.seglog.proofs.Bools.{and-both, both-and}
 use Rattle.seglog.proofs.Fit.{SegmentGood, ChainGood, is-chain, chain-below}
 use Rattle.seglog.proofs.Slots.{Fresh, fresh-cons, cons-fresh, fresh-snoc, snoc-fresh, apart-snoc, snoc-apart, pigeons}
 use Rattle.seglog.proofs.View.{front-snoc, head-snoc}
-use Rattle.recovery_walk.specs.declared.ImageRow.{ImageRow}
+use Rattle.image_rows.specs.declared.ImageRow.{ImageRow}
 use Rattle.recovery_walk.specs.declared.Scan.{Scan}
 use Rattle.recovery_walk.specs.Images.{walked, images, filledOf}
 use Rattle.recovery_walk.proofs.ImageCases.{first-walked}
-use Rattle.recovery.specs.ImageRows.{freshRow, rowsApart}
+use Rattle.image_rows.specs.ImageRows.{freshRow, rowsApart}
 use Rattle.recovery.specs.Recovery.{holdsLive, keptOf, closedAt}
 use Rattle.recovery.specs.Kept.{closedView}
 use Rattle.recovery.proofs.Walked.{HeadGood, Runs}

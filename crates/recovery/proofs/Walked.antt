@@ -18,7 +18,7 @@ use Rattle.page.specs.Page.{paddedEnd}
 use Rattle.page.proofs.Page.{pad-ge, pad-least, pad-multiple}
 use Rattle.seglog.specs.declared.Segment.{Segment}
 use Rattle.seglog.proofs.Bools.{and-both, both-ways}
-use Rattle.recovery_walk.specs.declared.ImageRow.{ImageRow}
+use Rattle.image_rows.specs.declared.ImageRow.{ImageRow}
 use Rattle.recovery_walk.specs.declared.Scan.{Scan}
 use Rattle.recovery_walk.specs.declared.Step.{Step}
 use Rattle.recovery_walk.specs.declared.Step.the-variants.{Next, Fault}
@@ -27,7 +27,8 @@ use Rattle.recovery_walk.specs.Images.{walked, records, images, imageOf, opened
 use Rattle.recovery_walk.proofs.StepCases.{Follows, follows-is, Went, went, more-over}
 use Rattle.recovery_walk.proofs.RecordCases.{records-ind, records-end}
 use Rattle.recovery_walk.proofs.ImageCases.{first-walked}
-use Rattle.recovery.specs.ImageRows.{rowsInside, oneApart}
+use Rattle.image_rows.specs.ImageRows.{rowsInside}
+use Rattle.image_rows.proofs.Ids.{IdsFrom}
 
 -- ---- the records of one image
 
@@ -172,11 +173,6 @@ runs-end k n i b (g ∷ gs) h = omega (arith, runs-end k n (i + 1) (g .max + 1) 
 abbrev pub Empties : List Segment → Type 0
 Empties [] = Unit {0}
 Empties (g ∷ gs) = (g .max ≡ 0) × Empties gs
-
--- rows of ids from i on
-abbrev pub IdsFrom : ℕ → List ImageRow → Type 0
-IdsFrom i [] = Unit {0}
-IdsFrom i (r ∷ rs) = (r .id ≡ i) × IdsFrom (i + 1) rs
 
 -- what an accepted walk from the state c to the state d tells of its segments
 pub record Tells (k n s e i : ℕ) (c d : Scan) (gs : List Segment) : Type 0 where
@@ -348,12 +344,3 @@ module _ (area : List ℕ) (k n s e : ℕ) (all : length area ≡ k * n) (whole 
                 (λ z. let y = w .end z t in (omega (arith, y .0), y .1));
             head = λ was. w .head (ran .head was);
           }
-
--- rows whose neighbours are 1 apart have ids from the first one's on
-pub ids-from : (r : ImageRow) (rs : List ImageRow) → oneApart (r ∷ rs) ≡ true → IdsFrom (r .id) (r ∷ rs)
-unfolding oneApart
-ids-from r [] h = (refl, tt)
-ids-from r (q ∷ rs) h =
-    let t = and-both (eqb (q .id) (r .id + 1)) (oneApart (q ∷ rs)) h in
-    let next : q .id ≡ r .id + 1 = eqb-true (q .id) (r .id + 1) (t .0) in
-    (refl, subst (λ (x : ℕ). IdsFrom x (q ∷ rs)) next (ids-from q rs (t .1)))

@@ -1,26 +1,30 @@
--- The ways of recovery, on plain values: each test that leads to a refusal, the empty range, and the scan of the sorted rows.
--- Assumes nothing.
+-- The ways of recovery, on plain values: each test that leads to a refusal, the empty range, and the scan of the sorted rows; and that the
+-- code's first refusal, from a new log's answer and from that of `arrange`, is the definition's. Assumes nothing.
 use mathlib.Core.Path.{_≡_, refl, sym, ap, subst, _∙_}
-use mathlib.Core.Bool.{Bool, true, false, _&&_, not}
+use mathlib.Core.Bool.{Bool, true, false, not}
 use mathlib.Core.List.{List, [], _∷_}
-use Prim.Native.Nat.{ℕ, _-_, _*_, _≤_, _<_}
+use Prim.Native.Nat.{ℕ, _*_, _≤_, _<_}
 use native.Mathlib.Omega.{arith}
-use lib.ListN.{length, take, drop}
-use lib.Seq.{take-at, length-take-le}
-use lib.Dec.{eqb, leb}
-use borrow.Author.Tests.{eq-eqb, ne-eqb, eqb-true, eqb-false, leb-true, lt-ltb, le-ltb}
+use lib.ListN.{length, take}
+use lib.Dec.{eqb, ltb}
+use borrow.Author.Tests.{eq-eqb, ne-eqb, eqb-true, eqb-false, ltb-true, ltb-false, lt-ltb, le-ltb}
 use Rattle.lists.specs.Choice.{_⇒_, first}
+use Rattle.lists.proofs.Cases.{by-test}
 use Rattle.seglog.specs.declared.Logged.{Logged}
 use Rattle.seglog.specs.Log.{emptyOf, logOf, zeroLog, sizesOf}
 use Rattle.seglog.specs.New.{roomyOf, newOf, refusedLog, accepted}
 use Rattle.seglog.specs.Shape.{SizesObey}
 use Rattle.seglog.proofs.Bools.{and-both}
 use Rattle.seglog.proofs.Fit.{sizes-are}
-use Rattle.recovery_walk.specs.declared.ImageRow.{ImageRow}
+use Rattle.image_rows.specs.declared.ImageRow.{ImageRow}
+use Rattle.image_rows.specs.declared.Rows.{Rows}
+use Rattle.image_rows.specs.declared.Arranged.{Arranged}
+use Rattle.image_rows.specs.ImageRows.{sortRows, rowsInside, rowsFit, lowestZero, oneApart}
+use Rattle.image_rows.specs.Rows.{listedOf}
+use Rattle.image_rows.specs.Arrange.{arrangedOf}
+use Rattle.image_rows.proofs.Order.{sort-inside}
+use Rattle.image_rows.proofs.Ways.{fit-is, fit-few, sorted-is, Took, arranged-either}
 use Rattle.recovery.specs.declared.Recovered.{Recovered}
-use Rattle.recovery.specs.declared.Rows.{Rows}
-use Rattle.recovery.specs.ImageRows.{sortRows, rowsInside, rowsApart, rowsFit, lowestZero, oneApart}
-use Rattle.recovery.specs.Rows.{listedOf, sortedOf}
 use Rattle.recovery.specs.Recovery.{
   Recovery,
   refused,
@@ -33,10 +37,7 @@ use Rattle.recovery.specs.Recovery.{
   recoveryIndex,
   RecoveryDid,
 }
-use Rattle.recovery.specs.Kept.{ScanPre}
-use Rattle.recovery.proofs.Fit.{listed-few, listed-long}
-use Rattle.recovery.proofs.Order.{sort-length, sort-inside}
-use Rattle.recovery.proofs.Walked.{IdsFrom, ids-from}
+use Rattle.recovery.specs.Kept.{firstRefusal, ScanPre}
 
 -- ---- a new log's refusal is recovery's first
 
@@ -70,43 +71,6 @@ unfolding roomyOf
 roomy-is k c m n h =
     let t = and-both (sizesOf k c m) (eqb n (k * c)) h in
     record { sizes = t .0; obey = sizes-are k c m (t .0); all = eqb-true n (k * c) (t .1) }
-
--- ---- the rows, where 13 to 15 are not met
-
-pub record Fit (k c : ℕ) (rs : List ImageRow) : Type 0 where
-  pub few : length rs ≤ 64
-  pub inside : rowsInside k c rs ≡ true
-  pub apart : rowsApart rs ≡ true
-
-pub fit-is : (k c : ℕ) (rs : List ImageRow) → rowsFit k c rs ≡ true → Fit k c rs
-unfolding rowsFit
-fit-is k c rs h =
-    let t = and-both (leb (length rs) 64 && rowsInside k c rs) (rowsApart rs) h in
-    let u = and-both (leb (length rs) 64) (rowsInside k c rs) (t .0) in
-    record { few = leb-true (length rs) 64 (u .0); inside = u .1; apart = t .1 }
-
--- the ids of sorted rows rise by 1, from 1 or more
-pub record Ids (rs : List ImageRow) : Type 0 where
-  pub i : ℕ
-  pub some : 1 ≤ i
-  pub from : IdsFrom i rs
-
-pub ids-are : (rs : List ImageRow) → lowestZero rs ≡ false → oneApart rs ≡ true → Ids rs
-unfolding lowestZero
-ids-are [] h g = record { i = 1; some = omega arith; from = tt }
-ids-are (r ∷ rs) h g = record { i = r .id; some = omega (arith, eqb-false (r .id) 0 h); from = ids-from r rs g }
-
--- ---- the sorted rows in their array
-
-module _ (r : Rows) (few : r .count ≤ 64) (long : length (r .rows) ≡ 64) where
-  pub sorted-count : r .count ≡ length (sortRows (listedOf r))
-  sorted-count = sym (sort-length (listedOf r) ∙ listed-long r long)
-
-  pub sorted-take : take (r .count) (sortedOf r .rows) ≡ sortRows (listedOf r)
-  sorted-take =
-      take-at (sortRows (take (r .count) (r .rows))) (drop (r .count) (r .rows)) (r .count)
-      (sort-length (take (r .count) (r .rows)) ∙ length-take-le (r .count) (r .rows) (omega arith))
-      ∙ ap sortRows (sym (listed-few r few))
 
 -- ---- the ways
 
@@ -197,27 +161,64 @@ did-scan k c m area area₁ index rs ss s e room o r area′ index′ same sorte
     (subst (λ (l : List ImageRow). RecoveryDid (scanned k c m area l s e room) area index r area′ index′) sorted
     (subst (λ (z : List ℕ). RecoveryDid (scanned k c m z rs s e room) z index r area′ index′) same h))
 
--- the rows of the array that the sort gives
-pub sorted-is : (r q : Rows) → q ≡ sortedOf r → r .count ≤ 64 → length (r .rows) ≡ 64 → take (q .count) (q .rows) ≡ sortRows (listedOf r)
-sorted-is r q is few long = ap (λ (z : Rows). take (z .count) (z .rows)) is ∙ sorted-take r few long
+-- ---- the code's first refusal
 
--- an array's rows that fit are 64 at most
-pub fit-few : (k c : ℕ) (r : Rows) → length (r .rows) ≡ 64 → rowsFit k c (listedOf r) ≡ true → r .count ≤ 64
-fit-few k c r long h = omega (arith, fit-is k c (listedOf r) h .few, listed-long r long)
+module _ (k c m : ℕ) (area : List ℕ) (images : Rows) (s e room : ℕ) (fresh : Logged) (arranged : Arranged)
+    (new : fresh ≡ newOf k c m (length area)) (rows : arranged ≡ arrangedOf k c images) where
+  -- what the refusals before the scan leave
+  pub record Passed : Type 0 where
+    pub roomy : roomyOf k c m (length area) ≡ true
+    pub log : fresh .log ≡ logOf (emptyOf k c m)
+    pub range : oneZero s e ≡ false
+    pub order : s ≤ e
+    pub took : Took k c images (arranged .rows)
 
--- what the scan asks, from the tests before it
-pub scan-asks : (k c m : ℕ) (area area₁ : List ℕ) (r q : Rows) (s e : ℕ) → area₁ ≡ area → q ≡ sortedOf r → length (r .rows) ≡ 64
-    → roomyOf k c m (length area) ≡ true → s ≤ e → (s ≡ 0 → ⊥) → rowsFit k c (listedOf r) ≡ true
-    → lowestZero (sortRows (listedOf r)) ≡ false → oneApart (sortRows (listedOf r)) ≡ true → ScanPre k c m area₁ q s e
-scan-asks k c m area area₁ r q s e same is long roomy order some fit low apart =
-    let few = fit-few k c r long fit in
-    let rows = sorted-is r q is few long in
-    record {
-      roomy = ap (λ (z : List ℕ). roomyOf k c m (length z)) same ∙ roomy;
-      order = order;
-      some = some;
-      few = omega (arith, ap (λ (z : Rows). z .count) is);
-      inside = ap (rowsInside k c) rows ∙ sort-inside k c (listedOf r) (fit-is k c (listedOf r) fit .inside);
-      low = ap lowestZero rows ∙ low;
-      apart = ap oneApart rows ∙ apart;
-    }
+  -- a number that is not 0 is the definition's refusal; 0 says that none was met
+  pub refusal-either : (n : ℕ) → n ≡ firstRefusal (fresh .refusal) s e (arranged .refusal)
+      → ((n ≡ 0 → ⊥) → recoveryOf k c m area (listedOf images) s e room ≡ refused n) × (n ≡ 0 → Passed)
+  unfolding firstRefusal
+  refusal-either n q =
+      by-test (eqb (fresh .refusal) 0)
+      (λ t. let sizes = new-accepts k c m (length area) fresh new (eqb-true (fresh .refusal) 0 t) in
+      by-test (oneZero s e) (λ o. at 11 (q ∙ simp (t, o)) (λ z. way-one-zero _ _ _ _ _ _ _ _ (sizes .0) o) (λ z. absurd (omega arith)))
+      (λ o. by-test (ltb e s)
+      (λ l. at 12 (q ∙ simp (t, o, l)) (λ z. way-order _ _ _ _ _ _ _ _ (sizes .0) o (ltb-true e s l)) (λ z. absurd (omega arith)))
+      (λ l.
+      let order = ltb-false e s l in
+      let few : k ≤ 64 = roomy-is k c m (length area) (sizes .0) .obey .few-slots in
+      let is : n ≡ arranged .refusal = q ∙ simp (t, o, l) in
+      at (arranged .refusal) is
+      (arranged-either (λ x. (x ≡ 0 → ⊥) → recoveryOf k c m area (listedOf images) s e room ≡ refused x) k c images arranged few rows
+      (λ f z. way-rows _ _ _ _ _ _ _ _ (sizes .0) o order f) (λ f w z. way-lowest _ _ _ _ _ _ _ _ (sizes .0) o order f w)
+      (λ f w p z. way-apart _ _ _ _ _ _ _ _ (sizes .0) o order f w p) (λ w z. absurd (z refl)))
+      (arranged-either (λ x. x ≡ 0 → Passed) k c images arranged few rows (λ f z. absurd (omega arith)) (λ f w z. absurd (omega arith))
+      (λ f w p z. absurd (omega arith))
+      (λ w z. record { roomy = sizes .0; log = sizes .1; range = o; order = order; took = w })))))
+      (λ t.
+      let no = new-refuses k c m (length area) fresh new (eqb-false (fresh .refusal) 0 t) in
+      at 1 (q ∙ simp t (no .1)) (λ z. way-sizes _ _ _ _ _ _ _ _ (no .0)) (λ z. absurd (omega arith)))
+    where
+      at : (x : ℕ) → n ≡ x → ((x ≡ 0 → ⊥) → recoveryOf k c m area (listedOf images) s e room ≡ refused x) → (x ≡ 0 → Passed)
+          → ((n ≡ 0 → ⊥) → recoveryOf k c m area (listedOf images) s e room ≡ refused n) × (n ≡ 0 → Passed)
+      at x is refuses passes = (
+        λ z. refuses (λ w. z (is ∙ w)) ∙ ap refused (sym is),
+        λ z. passes (sym is ∙ z),
+      )
+
+  module _ (p : Passed) (long : length (images .rows) ≡ 64) where
+    -- the rows of the array that the scan is given
+    pub rows-sorted : take (arranged .rows .count) (arranged .rows .rows) ≡ sortRows (listedOf images)
+    rows-sorted = sorted-is images (arranged .rows) (p .took .sorted-as) (fit-few k c images long (p .took .fit)) long
+
+    -- what the scan asks
+    pub scan-asks : (area₁ : List ℕ) → area₁ ≡ area → (s ≡ 0 → ⊥) → ScanPre k c m area₁ (arranged .rows) s e
+    scan-asks area₁ same some =
+        record {
+          roomy = ap (λ (z : List ℕ). roomyOf k c m (length z)) same ∙ p .roomy;
+          order = p .order;
+          some = some;
+          few = omega (arith, fit-few k c images long (p .took .fit), ap (λ (z : Rows). z .count) (p .took .sorted-as));
+          inside = ap (rowsInside k c) rows-sorted ∙ sort-inside k c (listedOf images) (fit-is k c (listedOf images) (p .took .fit) .inside);
+          low = ap lowestZero rows-sorted ∙ p .took .low;
+          apart = ap oneApart rows-sorted ∙ p .took .apart;
+        }

@@ -5,10 +5,10 @@ use mathlib.Core.List.{List}
 use mathlib.Core.Bool.{false}
 use Prim.Native.Nat.{ℕ}
 use lib.ListN.{length}
-use Rattle.recovery_walk.specs.declared.ImageRow.{ImageRow}
+use Rattle.image_rows.specs.declared.ImageRow.{ImageRow}
 use Rattle.recovery_walk.specs.Images.{startOf}
 use Rattle.recovery_walk.specs.Headers.{EachWalked, SameHeader}
-use Rattle.recovery.specs.ImageRows.{sortRows}
+use Rattle.image_rows.specs.ImageRows.{sortRows}
 use Rattle.recovery.specs.Recovery.{Recovery, recoveryOf, recoveryAnswer, recoveryIndex}
 
 -- two outcomes have the same answer, and leave the same words in any index

@@ -1,19 +1,25 @@
--- A recovery behind 1 and 11 to 15, as the code does it: what the scan asks, the kept segments at the front of 64 entries, and the last of
--- them closed at e. Assumes nothing.
+-- A recovery as the code does it: the first refusal of 1 and 11 to 15, what the scan asks, the kept segments at the front of 64 entries,
+-- and the last of them closed at e. Assumes nothing.
 use mathlib.Core.Path.{_≡_}
-use mathlib.Core.Bool.{true, false}
+use mathlib.Core.Bool.{true, false, not}
 use mathlib.Core.List.{List, [], _∷_, _++_}
 use Prim.Native.Nat.{ℕ, _-_, _^_, _≤_, _<_}
 use lib.ListN.{length, take, replicate}
+use lib.Dec.{ltb, eqb}
+use Rattle.lists.specs.Choice.{_⇒_, first}
 use Rattle.seglog.specs.declared.Segment.{Segment}
 use Rattle.seglog.specs.Log.{noSegment, View, logOf, headOf, frontOf}
 use Rattle.seglog.specs.New.{roomyOf}
 use Rattle.recovery_walk.specs.declared.Scanned.{Scanned}
 use Rattle.recovery.specs.declared.Recovered.{Recovered}
-use Rattle.recovery.specs.declared.Rows.{Rows}
+use Rattle.image_rows.specs.declared.Rows.{Rows}
 use Rattle.recovery.specs.declared.kept.Kept.{Kept}
-use Rattle.recovery.specs.ImageRows.{rowsInside, lowestZero, oneApart}
-use Rattle.recovery.specs.Recovery.{keptOf, closedAt, paddedHead}
+use Rattle.image_rows.specs.ImageRows.{rowsInside, lowestZero, oneApart}
+use Rattle.recovery.specs.Recovery.{keptOf, closedAt, paddedHead, oneZero}
+
+-- the first refusal before the scan, from that of the sizes (1) and that of the rows (13 to 15): 0 where there is none
+unfoldable pub firstRefusal : (sizes s e rows : ℕ) → ℕ
+firstRefusal sizes s e rows = first ((not (eqb sizes 0) ⇒ sizes) ∷ (oneZero s e ⇒ 11) ∷ (ltb e s ⇒ 12) ∷ []) rows
 
 -- what the scan of the first rows of an array asks: 1 and 11 to 15 were not met, and the range is not (0, 0)
 pub record ScanPre (k c m : ℕ) (area : List ℕ) (images : Rows) (s e : ℕ) : Type 0 where

@@ -10,13 +10,13 @@ use Rattle.lists.specs.Splice.{splice}
 use Rattle.seglog.specs.declared.Segment.{Segment}
 use Rattle.seglog.specs.Log.{View, emptyOf, logOf, zeroLog, headOf, frontOf}
 use Rattle.seglog.specs.New.{roomyOf}
-use Rattle.recovery_walk.specs.declared.ImageRow.{ImageRow}
+use Rattle.image_rows.specs.declared.ImageRow.{ImageRow}
 use Rattle.recovery_walk.specs.Images as Walk
 use Rattle.recovery_walk.specs.Images.{Outcome}
 use Rattle.recovery_walk.specs.Rows.{rowsAll, penOf}
 use Rattle.recovery_walk.specs.Scan.{scanOf}
 use Rattle.recovery.specs.declared.Recovered.{Recovered}
-use Rattle.recovery.specs.ImageRows.{sortRows, rowsFit, lowestZero, oneApart}
+use Rattle.image_rows.specs.ImageRows.{sortRows, rowsFit, lowestZero, oneApart}
 
 -- a recovery's outcome: a refusal's number, or the log, the area and the words that the index begins with
 pub data Recovery : Type 0 where

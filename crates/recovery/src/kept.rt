@@ -3,12 +3,12 @@
 ghost use mathlib.Core.Path.{_≡_};
 ghost use Prim.Native.Nat.{_≤_, _+_};
 ghost use lib.ListN.{take};
+ghost use lib.Dec.{leb};
 ghost use Rattle.lists.specs.Choice.{pick};
 ghost use Rattle.seglog.specs.Log.{noSegment};
 ghost use Rattle.recovery.specs.Recovery.{holdsLive, keptOf, closedAt};
 ghost use Rattle.recovery.specs.Kept.{keptIn, ClosePre, CloseDid};
 use crate::Recovered;
-use crate::images;
 use recovery_walk::Scanned;
 use seglog::Log;
 use seglog::Segment;
@@ -31,12 +31,18 @@ fn no_segment() -> Segment
     }
 }
 
+fn at_most(a: u64, b: u64) -> bool
+    ensures { λ r. ⌜ r ≡ leb a b ⌝ }
+{
+    a <= b
+}
+
 // Whether the segment holds a record from s to e.
 fn holds_live(s: u64, e: u64, g: Segment) -> bool
     ensures { λ r. ⌜ r ≡ holdsLive s e g ⌝ }
 {
-    let from = images::at_most(g.min, e);
-    let to = images::at_most(s, g.max);
+    let from = at_most(g.min, e);
+    let to = at_most(s, g.max);
     from & to
 }
 

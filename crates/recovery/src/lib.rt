@@ -3,10 +3,12 @@
 ghost use mathlib.Core.Path.{_≡_};
 ghost use Prim.Native.Nat.{_<_};
 ghost use lib.ListN.{length, take};
-ghost use Rattle.recovery.specs.Rows.{noRows, tooMany, putRow, rowsOf, listedOf};
-ghost use Rattle.recovery.specs.Recovery.{refused, scanned, recoveryOf, recoveryAnswer, RecoveryDid};
-ghost use Rattle.recovery.specs.Kept.{ScanPre};
-use recovery_walk::ImageRow;
+ghost use lib.Dec.{eqb};
+ghost use Rattle.image_rows.specs.Rows.{noRows, tooMany, putRow, rowsOf, listedOf};
+ghost use Rattle.recovery.specs.Recovery.{refused, scanned, oneZero, recoveryOf, recoveryAnswer, RecoveryDid};
+ghost use Rattle.recovery.specs.Kept.{firstRefusal, ScanPre};
+use image_rows::ImageRow;
+use image_rows::Rows;
 use seglog::Log;
 use seglog::Segment;
 
@@ -18,13 +20,6 @@ pub struct Recovered {
     pub log: Log,
 }
 
-// The image rows: the first `count` entries. A count above 64 stands for more rows than there is room for.
-pub struct Rows {
-    pub count: usize,
-    pub rows: [ImageRow; 64],
-}
-
-mod images;
 mod kept;
 
 // No row yet.
@@ -134,6 +129,37 @@ fn scan(
     kept::close(k, c, m, area, s, e, count, found)
 }
 
+fn same(a: u64, b: u64) -> bool
+    ensures { λ r. ⌜ r ≡ eqb a b ⌝ }
+{
+    a == b
+}
+
+// Whether exactly one of s, e is 0.
+fn one_zero(s: u64, e: u64) -> bool
+    ensures { λ r. ⌜ r ≡ oneZero s e ⌝ }
+{
+    let start = same(s, 0);
+    let end = same(e, 0);
+    (start & !end) | (!start & end)
+}
+
+// The first refusal before the scan: that of the sizes (1), 11 and 12 of the range, that of the rows (13 to 15); 0 where there is none.
+fn first_refusal(sizes: u32, s: u64, e: u64, rows: u32) -> u32
+    ensures { λ r. ⌜ r ≡ firstRefusal sizes s e rows ⌝ }
+{
+    if sizes != 0 {
+        return sizes;
+    }
+    if one_zero(s, e) {
+        return 11;
+    }
+    if e < s {
+        return 12;
+    }
+    rows
+}
+
 // Recovers the records s to e from the images of the rows, which stand in an array: 1, 11 to 15, then the scan.
 pub fn recover_rows(
     k: u64,
@@ -150,25 +176,10 @@ pub fn recover_rows(
         (now (area .entry)) (now (index .entry)) r (now (area .exit)) (now (index .exit)) ⌝ }
 {
     let fresh = seglog::new_log(k, c, m, area);
-    let number = fresh.refusal;
+    let arranged = image_rows::arrange(k, c, rows);
+    let number = first_refusal(fresh.refusal, s, e, arranged.refusal);
     if number != 0 {
         return refusal(number);
-    }
-    if images::one_zero(s, e) {
-        return refusal(11);
-    }
-    if e < s {
-        return refusal(12);
-    }
-    if !images::fit(k, c, rows) {
-        return refusal(13);
-    }
-    let sorted = images::sort(rows);
-    if images::lowest_zero(sorted) {
-        return refusal(14);
-    }
-    if !images::one_apart(sorted) {
-        return refusal(15);
     }
     if s == 0 {
         let log = fresh.log;
@@ -178,6 +189,7 @@ pub fn recover_rows(
             log,
         };
     }
+    let sorted = arranged.rows;
     scan(k, c, m, area, sorted, s, e, index)
 }
 

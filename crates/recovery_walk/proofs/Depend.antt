@@ -19,7 +19,7 @@ use Rattle.record.specs.declared.HeaderAnswer.{HeaderAnswer}
 use Rattle.record.specs.declared.HeaderAnswer.the-variants.{Header, Short, TooLong}
 use Rattle.record.proofs.Record.{header-short as read-short}
 use Rattle.seglog.specs.declared.Segment.{Segment}
-use Rattle.recovery_walk.specs.declared.ImageRow.{ImageRow}
+use Rattle.image_rows.specs.declared.ImageRow.{ImageRow}
 use Rattle.recovery_walk.specs.declared.Scan.{Scan}
 use Rattle.recovery_walk.specs.declared.Scanned.{Scanned}
 use Rattle.recovery_walk.specs.declared.Step.{Step}

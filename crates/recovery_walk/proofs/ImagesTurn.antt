@@ -16,13 +16,14 @@ use Rattle.lists.specs.Choice.{pick}
 use Rattle.lists.proofs.Splice.{part-length}
 use Rattle.seglog.specs.declared.Segment.{Segment}
 use Rattle.seglog.specs.Log.{noSegment}
-use Rattle.recovery_walk.specs.declared.ImageRow.{ImageRow}
+use Rattle.image_rows.specs.declared.ImageRow.{ImageRow}
 use Rattle.recovery_walk.specs.declared.Scan.{Scan}
 use Rattle.recovery_walk.specs.declared.Step.{Step}
 use Rattle.recovery_walk.specs.declared.Step.the-variants.{Next, Fault}
 use Rattle.recovery_walk.specs.Step.{gapOf}
 use Rattle.recovery_walk.specs.Images.{Outcome, refused, walked, records, startOf, openedOf, filledOf, imageOf, after, behind}
-use Rattle.recovery_walk.specs.Images.{images, rowAt, noRow}
+use Rattle.image_rows.specs.Rows.{noRow}
+use Rattle.recovery_walk.specs.Images.{images, rowAt}
 use Rattle.recovery_walk.specs.Scan.{scannedOf, settledOf}
 
 -- no segments in front change nothing

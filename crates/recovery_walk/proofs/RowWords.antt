@@ -14,7 +14,7 @@ use Rattle.lists.specs.Splice.{splice}
 use Rattle.lists.specs.Until.{Turn, again, stop}
 use Rattle.lists.proofs.Until.{until-again, until-stop, until-keeps}
 use Rattle.lists.proofs.Splice.{splice-fits, splice-none, splice-front, splice-inside, splice-behind, splice-length}
-use Rattle.recovery_walk.specs.declared.ImageRow.{ImageRow}
+use Rattle.image_rows.specs.declared.ImageRow.{ImageRow}
 use Rattle.recovery_walk.specs.declared.Scan.{Scan}
 use Rattle.recovery_walk.specs.declared.Step.{Step}
 use Rattle.recovery_walk.specs.declared.Step.the-variants.{Next, Fault}

@@ -8,7 +8,7 @@ use native.Mathlib.Numerals.{add-one}
 use native.Mathlib.Omega.{arith}
 use lib.ListN.{length, take, drop, length-take, length-append, take-append-drop, drop-of-length-le}
 use lib.Seq.{drop-drop, length-take-le}
-use Rattle.recovery_walk.specs.declared.ImageRow.{ImageRow}
+use Rattle.image_rows.specs.declared.ImageRow.{ImageRow}
 use Rattle.recovery_walk.specs.declared.Scan.{Scan}
 use Rattle.recovery_walk.specs.declared.Step.the-variants.{Next}
 use Rattle.recovery_walk.specs.Step.{liveOf, moreOf, recordStep}

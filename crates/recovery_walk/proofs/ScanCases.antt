@@ -8,7 +8,7 @@ use native.Mathlib.Omega.{arith}
 use lib.ListN.{length, take, drop}
 use borrow.Author.Tests.{lt-ltb, le-ltb}
 use Rattle.seglog.specs.declared.Segment.{Segment}
-use Rattle.recovery_walk.specs.declared.ImageRow.{ImageRow}
+use Rattle.image_rows.specs.declared.ImageRow.{ImageRow}
 use Rattle.recovery_walk.specs.declared.Scan.{Scan}
 use Rattle.recovery_walk.specs.declared.Scanned.{Scanned}
 use Rattle.recovery_walk.specs.Images.{Outcome, refused, walked, images, startOf}

@@ -9,7 +9,8 @@ use Rattle.lists.specs.Choice.{pick, _⇒_, first}
 use Rattle.lists.specs.Splice.{part}
 use Rattle.lists.specs.Until.{Turn, again, stop, until}
 use Rattle.seglog.specs.declared.Segment.{Segment}
-use Rattle.recovery_walk.specs.declared.ImageRow.{ImageRow}
+use Rattle.image_rows.specs.declared.ImageRow.{ImageRow}
+use Rattle.image_rows.specs.Rows.{noRow}
 use Rattle.recovery_walk.specs.declared.Scan.{Scan}
 use Rattle.recovery_walk.specs.declared.Step.{Step}
 use Rattle.recovery_walk.specs.declared.Step.the-variants.{Next, Fault}
@@ -88,10 +89,6 @@ images area n s e (r ∷ rs) gap c =
     (λ d. behind (filledOf r d ∷ []) (images area n s e rs (eqb (r .size) 0) d)))
 
 -- ---- as the code holds the rows
-
--- the entry of no row
-abbrev pub noRow : ImageRow
-noRow = record { id = 0; slot = 0; size = 0 }
 
 -- the row at an index
 abbrev pub rowAt : List ImageRow → ℕ → ImageRow

@@ -9,7 +9,7 @@ use lib.Dec.{ltb, eqb}
 use Rattle.lists.specs.Choice.{pick, _⇒_, first}
 use Rattle.seglog.specs.declared.Segment.{Segment}
 use Rattle.seglog.specs.Log.{noSegment}
-use Rattle.recovery_walk.specs.declared.ImageRow.{ImageRow}
+use Rattle.image_rows.specs.declared.ImageRow.{ImageRow}
 use Rattle.recovery_walk.specs.declared.Scan.{Scan}
 use Rattle.recovery_walk.specs.declared.Scanned.{Scanned}
 use Rattle.recovery_walk.specs.Images.{Outcome, refused, walked, images, startOf}

@@ -4,19 +4,12 @@
 ghost use mathlib.Core.Path.{_≡_};
 ghost use Rattle.recovery_walk.specs.Images.{WalkPre};
 ghost use Rattle.recovery_walk.specs.Scan.{ScanDid};
+use image_rows::ImageRow;
 use seglog::Segment;
 
 mod rows;
 mod steps;
 mod walk;
-
-// An image row: which slot holds the image of a segment, and how many bytes it has.
-#[repr(C)]
-pub struct ImageRow {
-    pub id: u32,
-    pub slot: u32,
-    pub size: u64,
-}
 
 // What the walk carries from record to record.
 pub struct Scan {

@@ -6,11 +6,11 @@ ghost use Prim.Native.Nat.{_+_, _≤_};
 ghost use lib.ListN.{length, take, drop};
 ghost use Rattle.recovery_walk.specs.Images.{WalkPre};
 ghost use Rattle.recovery_walk.specs.Rows.{rowOf, rowsAll, penOf, RowPut};
-use crate::ImageRow;
 use crate::Scan;
 use crate::Step;
 use crate::steps;
 use crate::walk;
+use image_rows::ImageRow;
 
 // Four words at `at` where the record is live, and the next place.
 fn put_live(index: &mut [u64], at: usize, live: bool, slot: u32, state: Scan) -> usize

@@ -6,11 +6,11 @@ ghost use lib.ListN.{take, replicate};
 ghost use Rattle.seglog.specs.Log.{noSegment};
 ghost use Rattle.recovery_walk.specs.Images.{startOf, openedOf, filledOf, faultOf, images, refused, WalkPre};
 ghost use Rattle.recovery_walk.specs.Scan.{scannedOf, settledOf};
-use crate::ImageRow;
 use crate::Scan;
 use crate::Scanned;
 use crate::Step;
 use crate::steps;
+use image_rows::ImageRow;
 use seglog::Segment;
 
 // Before the scan's first record.

@@ -73,7 +73,7 @@ pub(crate) fn decoded(line: &[u8], input: &mut [u8], rows: &mut [u8]) -> bool {
     let answer = decoded.answer;
     let wanted = fields::wanted(line, 3);
     let Decoding::Consumed(consumed) = answer else {
-        return answers::decoding(answer) == wanted;
+        return delta::decoding_number(answer) == wanted;
     };
     let whole = consumed as u64 == fields::hex(fields::word(line, 4));
     (wanted == 0)
@@ -91,7 +91,7 @@ fn encodes_as(input: &[u8], bytes: &[u8], departure: u32) -> bool {
     let mut out = io::large_buffer();
     let answer = delta_encode::encode(decoded.table, input, &mut out);
     let Encoded::Written(size) = answer else {
-        return answers::encoded(answer) == departure;
+        return delta_encode::encoded_number(answer) == departure;
     };
     (departure == 0) & fields::same(slices::front(&out, size), bytes)
 }

@@ -12,7 +12,7 @@ pub(crate) fn written(line: &[u8], prefix: &mut [u8], name: &mut [u8]) -> bool {
     let answer = segment_filename::format(slices::front(prefix, n), id, &mut out);
     let departure = fields::departure(line);
     let Formatted::Length(size) = answer else {
-        return answers::formatted(answer) == departure;
+        return segment_filename::formatted_number(answer) == departure;
     };
     (departure == 0) & fields::same(slices::front(&out, size), slices::front(name, m))
 }
@@ -24,7 +24,7 @@ pub(crate) fn parsed(line: &[u8], prefix: &mut [u8], name: &mut [u8]) -> bool {
     let answer = segment_filename::parse(slices::front(prefix, n), slices::front(name, m));
     let wanted = fields::wanted(line, 4);
     let Parsed::Id(id) = answer else {
-        return answers::parsed(answer) == wanted;
+        return segment_filename::parsed_number(answer) == wanted;
     };
     (wanted == 0) & (id == fields::short_hex(fields::word(line, 5)))
 }

@@ -6,7 +6,7 @@ use delta::Table;
 fn decode(input: &[u8]) -> u32 {
     let decoded = delta::decode(input);
     let answer = decoded.answer;
-    answers::decoding(answer)
+    delta::decoding_number(answer)
 }
 
 // A delta that erases one key twice.
@@ -31,7 +31,7 @@ fn table(count: usize) -> Table {
 
 fn encode(table: Table) -> u32 {
     let mut out = [0u8; 39];
-    answers::encoded(delta_encode::encode(table, b"", &mut out))
+    delta_encode::encoded_number(delta_encode::encode(table, b"", &mut out))
 }
 
 pub(crate) fn deltas() -> bool {

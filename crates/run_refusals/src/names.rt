@@ -2,7 +2,7 @@
 use crate::met;
 
 fn parse(prefix: &[u8], name: &[u8]) -> u32 {
-    answers::parsed(segment_filename::parse(prefix, name))
+    segment_filename::parsed_number(segment_filename::parse(prefix, name))
 }
 
 pub(crate) fn names() -> bool {
@@ -30,6 +30,10 @@ pub(crate) fn names() -> bool {
         b"not a u32",
     );
     let written = segment_filename::format(b"rollback", 1, &mut short);
-    let room = met(answers::formatted(written), 36, b"name buffer short");
+    let room = met(
+        segment_filename::formatted_number(written),
+        36,
+        b"name buffer short",
+    );
     empty & prefix & suffix & dot & ten & number & room
 }

@@ -1,7 +1,7 @@
 // 11 to 24: recovery and the row question, on the images of two segments with the records 1-2 and 3-4, a page each.
 use crate::met;
-use recovery::Rows;
-use recovery_walk::ImageRow;
+use image_rows::ImageRow;
+use image_rows::Rows;
 
 // Two image rows.
 struct Pair {

@@ -28,7 +28,7 @@ pub(crate) fn table_of(first: Row, second: Row, count: usize) -> Table {
 fn written(table: Table, out: &mut [u8]) -> u64 {
     let answer = delta_encode::encode(table, b"abc", out);
     let Encoded::Written(n) = answer else {
-        return answers::encoded(answer) as u64;
+        return delta_encode::encoded_number(answer) as u64;
     };
     n as u64
 }

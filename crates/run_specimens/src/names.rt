@@ -21,7 +21,7 @@ fn written() -> u64 {
 fn read(name: &[u8]) -> u64 {
     let answer = segment_filename::parse(b"rollback", name);
     let Parsed::Id(id) = answer else {
-        return answers::parsed(answer) as u64;
+        return segment_filename::parsed_number(answer) as u64;
     };
     id as u64
 }

@@ -48,18 +48,18 @@ module _ (prefix : List ℕ) (id : ℕ) (out : List ℕ) where
 
   -- 30
   pub given-empty : length prefix ≡ 0 → Given EmptyPrefix out
-  unfolding formattedOf formattedInto formatRefusal
+  unfolding formattedOf formattedInto
   given-empty h = let t = eq-eqb (length prefix) 0 h in (simp t, simp t)
 
   -- 36
   pub given-short : (length prefix ≡ 0 → ⊥) → length out < length prefix + 15 → Given BufferShort out
-  unfolding formattedOf formattedInto formatRefusal
+  unfolding formattedOf formattedInto
   given-short h g =
       let t = ne-eqb (length prefix) 0 h in let u = lt-ltb (length out) (length prefix + 15) g in (simp (t, u), simp (t, u))
 
   -- accepted
   pub given-fits : (length prefix ≡ 0 → ⊥) → length prefix + 15 ≤ length out
       → Given (Length (length prefix + 15)) (splice 0 (nameOf prefix id) out)
-  unfolding formattedOf formattedInto formatRefusal
+  unfolding formattedOf formattedInto
   given-fits h g =
       let t = ne-eqb (length prefix) 0 h in let u = le-ltb (length out) (length prefix + 15) g in (simp (t, u), simp (t, u))

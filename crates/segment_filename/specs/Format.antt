@@ -24,13 +24,13 @@ unfoldable pub nameOf : List ℕ → ℕ → List ℕ
 nameOf prefix id = prefix ++ (dot ++ (digits 10 id ++ suffix))
 
 -- the refusal number of each answer of `format`: empty prefix 30, name buffer short 36; 0 where it is accepted
-unfoldable pub formatRefusal : Formatted → ℕ
+abbrev pub formatRefusal : Formatted → ℕ
 formatRefusal (Length n) = 0
 formatRefusal EmptyPrefix = 30
 formatRefusal BufferShort = 36
 
 -- the length that an answer of `format` holds; 0 where it is refused
-unfoldable pub formatLength : Formatted → ℕ
+abbrev pub formatLength : Formatted → ℕ
 formatLength (Length n) = n
 formatLength EmptyPrefix = 0
 formatLength BufferShort = 0

@@ -13,7 +13,7 @@ use Rattle.segment_filename.specs.Digits.{isU32, valueOf}
 use Rattle.segment_filename.specs.Format.{dot, suffix}
 
 -- the refusal number of each answer of `parse`, 30 to 35; 0 where it is accepted
-unfoldable pub parseRefusal : Parsed → ℕ
+abbrev pub parseRefusal : Parsed → ℕ
 parseRefusal (Id v) = 0
 parseRefusal EmptyPrefix = 30
 parseRefusal PrefixMissing = 31
@@ -23,7 +23,7 @@ parseRefusal NotTenBytes = 34
 parseRefusal NotU32 = 35
 
 -- the id that an answer of `parse` holds; 0 where it is refused
-unfoldable pub parseId : Parsed → ℕ
+abbrev pub parseId : Parsed → ℕ
 parseId (Id v) = v
 parseId EmptyPrefix = 0
 parseId PrefixMissing = 0

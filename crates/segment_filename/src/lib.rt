@@ -7,14 +7,36 @@ ghost use Rattle.lists.specs.Choice.{pick};
 ghost use Rattle.lists.specs.Splice.{part};
 ghost use Rattle.segment_filename.specs.Words.{same, endsWith};
 ghost use Rattle.segment_filename.specs.Digits.{digits, isDigit, signLength, isU32, valueOf};
-ghost use Rattle.segment_filename.specs.Format.{formattedOf, formattedInto};
-ghost use Rattle.segment_filename.specs.Parse.{parsedOf};
+ghost use Rattle.segment_filename.specs.Format.{formatRefusal, formatLength, formattedOf, formattedInto};
+ghost use Rattle.segment_filename.specs.Parse.{parseRefusal, parseId, parsedOf};
 
 // What `format` answers: the name's length, or why nothing was written.
 pub enum Formatted {
     Length(usize),
     EmptyPrefix,
     BufferShort,
+}
+
+// Document 01's number of an answer of `format`, 0 where it is accepted.
+pub fn formatted_number(answer: Formatted) -> u32
+    ensures { λ r. ⌜ r ≡ formatRefusal answer ⌝ }
+{
+    match answer {
+        Formatted::Length(_) => 0,
+        Formatted::EmptyPrefix => 30,
+        Formatted::BufferShort => 36,
+    }
+}
+
+// The length that was written, 0 beside a refusal.
+pub fn formatted_length(answer: Formatted) -> u64
+    ensures { λ r. ⌜ r ≡ formatLength answer ⌝ }
+{
+    match answer {
+        Formatted::Length(n) => n as u64,
+        Formatted::EmptyPrefix => 0,
+        Formatted::BufferShort => 0,
+    }
 }
 
 // What `parse` answers: the segment's id, or what is wrong with the name.
@@ -26,6 +48,36 @@ pub enum Parsed {
     DotMissing,
     NotTenBytes,
     NotU32,
+}
+
+// Document 01's number of an answer of `parse`, 0 where it is accepted.
+pub fn parsed_number(answer: Parsed) -> u32
+    ensures { λ r. ⌜ r ≡ parseRefusal answer ⌝ }
+{
+    match answer {
+        Parsed::Id(_) => 0,
+        Parsed::EmptyPrefix => 30,
+        Parsed::PrefixMissing => 31,
+        Parsed::SuffixMissing => 32,
+        Parsed::DotMissing => 33,
+        Parsed::NotTenBytes => 34,
+        Parsed::NotU32 => 35,
+    }
+}
+
+// The id that was read, 0 beside a refusal.
+pub fn parsed_id(answer: Parsed) -> u32
+    ensures { λ r. ⌜ r ≡ parseId answer ⌝ }
+{
+    match answer {
+        Parsed::Id(v) => v,
+        Parsed::EmptyPrefix => 0,
+        Parsed::PrefixMissing => 0,
+        Parsed::SuffixMissing => 0,
+        Parsed::DotMissing => 0,
+        Parsed::NotTenBytes => 0,
+        Parsed::NotU32 => 0,
+    }
 }
 
 // The ten decimal digits of id, with leading zeros.

@@ -25,7 +25,7 @@ room n = pad-rounded 4096 (12 + n) (lit< tt)
 
 -- the table
 pub specimens : Specimens
-unfolding nameOf formatRefusal formatLength formattedOf parseRefusal parseId parsedOf same startsWith endsWith digits allDigits valueFrom signLength leAt leBytes u32At compareKeys rank any sortBy clash eraseAt reinstateAt group reinstates reading walk concat sum deltaBytes encodedOf splice
+unfolding nameOf formattedOf parsedOf same startsWith endsWith digits allDigits valueFrom signLength leAt leBytes u32At compareKeys rank any sortBy clash eraseAt reinstateAt group reinstates reading walk concat sum deltaBytes encodedOf splice
 specimens =
     record {
       one-page = room 4084;

@@ -42,15 +42,15 @@ use denote.Triple.Walked.{says, Stays, gave-slice, stay-dropped, walkOf, goes-ga
 use denote.Triple.Walked.{walk-meets}
 use denote.Exit.{yes}
 use denote.Signature.{Slot, plain, shrSliceOf}
-use Rattle.recovery_walk.specs.declared.ImageRow.{ImageRow}
-use Rattle.recovery_walk.proofs.ImageRow as S
-use Rattle.recovery.specs.declared.Rows.{Rows}
+use Rattle.image_rows.specs.declared.ImageRow.{ImageRow}
+use Rattle.image_rows.proofs.ImageRow as S
+use Rattle.image_rows.specs.declared.Rows.{Rows}
 use Rattle.recovery.specs.declared.Recovered.{Recovered}
-use Rattle.recovery.specs.Rows.{rowsOf, listedOf}
+use Rattle.image_rows.specs.Rows.{rowsOf, listedOf}
 use Rattle.recovery.specs.Recovery.{Recovery, recoveryOf, RecoveryDid}
 use Rattle.recovery.proofs.Read.{read-same}
-use Rattle.recovery.proofs.Rows as T
-use Rattle.recovery.proofs.Rows.Laws as T′
+use Rattle.image_rows.proofs.Rows as T
+use Rattle.image_rows.proofs.Rows.Laws as T′
 use Rattle.recovery.proofs.Recovered as Q
 use Rattle.recovery.proofs.Recovered.Laws as Q′
 use Rattle.recovery.proofs.read_rows as read

@@ -42,8 +42,8 @@ use denote.Triple.Walked.{says, Stays, gave-slice, stay-dropped, walkOf, goes-ga
 use denote.Triple.Walked.{Stay, walked, walk-meets}
 use denote.Exit.{yes}
 use denote.Signature.{Slot, plain, shrSliceOf, mutSliceOf}
-use Rattle.recovery_walk.specs.declared.ImageRow.{ImageRow}
-use Rattle.recovery_walk.proofs.ImageRow as S
+use Rattle.image_rows.specs.declared.ImageRow.{ImageRow}
+use Rattle.image_rows.proofs.ImageRow as S
 use Rattle.recovery.specs.Recovery.{Recovery, recoveryOf, RecoveryDid}
 use Rattle.recovery.specs.declared.Recovered as Library
 use Rattle.recovery.proofs.Recovered as T

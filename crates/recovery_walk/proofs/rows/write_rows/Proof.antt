@@ -10,7 +10,7 @@ use Prim.Native.Nat.{ℕ, _+_, _-_, _*_, _^_, _≤_, _<_}
 use native.Mathlib.Nat.{le-refl}
 use mir.Facts.{fits-widen}
 use lib.ListN.{length}
-use Rattle.recovery_walk.specs.declared.ImageRow.{ImageRow}
+use Rattle.image_rows.specs.declared.ImageRow.{ImageRow}
 use Rattle.recovery_walk.specs.declared.Step.the-variants.{Next}
 use Rattle.recovery_walk.specs.Step.{recordStep, moreOf}
 use Rattle.recovery_walk.specs.Images.{rowAt}

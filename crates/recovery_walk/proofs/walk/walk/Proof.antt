@@ -9,7 +9,7 @@ use mathlib.Core.Bool.{true, false}
 use Prim.Native.Nat.{ℕ, _+_, _-_, _*_, _^_, _≤_, _<_}
 use mir.Facts.{fits-widen}
 use lib.ListN.{length, take}
-use Rattle.recovery_walk.specs.declared.ImageRow.{ImageRow}
+use Rattle.image_rows.specs.declared.ImageRow.{ImageRow}
 use Rattle.recovery_walk.specs.declared.Step.the-variants.{Next, Fault}
 use Rattle.recovery_walk.specs.Step.{recordStep, moreOf, gapOf}
 use Rattle.recovery_walk.specs.Images.{images, startOf, rowAt, refused, faultOf}

@@ -1,0 +1,7 @@
+pub mod Facts
+pub mod Insert
+pub mod Tests
+pub mod Order
+pub mod Ids
+pub mod Ways
+pub mod Unique

@@ -1,0 +1,4 @@
+pub mod ImageRows
+pub mod Sorted
+pub mod Rows
+pub mod Arrange
