@@ -3,6 +3,7 @@
 use mathlib.Core.Path.{_≡_, sym, _∙_}
 use mathlib.Core.Logic.{⊎-elim}
 use Prim.Native.Nat.{_-_, _≤_}
+use native.Mathlib.Omega.{arith}
 use lib.ListN.{length}
 use borrow.Author.Tests.{not-true, not-false}
 use Rattle.record.specs.Record.{recordRoom}
@@ -47,8 +48,8 @@ past c =
     record {
       long = long-at (c .before .before .before .before .before .before);
       fits = sym (c .before .before .before .fits2 .ensures) ∙ not-false _ (c .before .before .if1 .left);
-      small = c .before .if2 .left;
-      more = c .if3 .left;
+      small = omega (arith, c .before .if2 .left);
+      more = λ z. omega (arith, c .if3 .left);
     }
 
 -- whether a new segment is wanted
