@@ -58,7 +58,7 @@ use Rattle.recovery.specs.Recovery.{
 use Rattle.recovery.specs.Kept.{closedView}
 use Rattle.image_rows.proofs.Order.{sort-inside, sort-apart}
 use Rattle.image_rows.proofs.Ids.{Ids, ids-are}
-use Rattle.image_rows.proofs.Ways.{Fit, fit-is}
+use Rattle.image_rows.proofs.Ways.{fit-is}
 use Rattle.recovery.proofs.Shaped.{images-slots, slots-apart, kept-apart, closed-shaped}
 use Rattle.recovery.proofs.Ways.{Roomy, roomy-is}
 use Rattle.recovery.proofs.Scanned.{Keeps, scan-keeps, runs-last}

@@ -1,7 +1,6 @@
 -- The lent rows and their array lead to the same recovery: where there are more than 64, both are refused alike. Assumes nothing.
-use mathlib.Core.Path.{_≡_, refl, sym, ap, _∙_}
-use mathlib.Core.Bool.{Bool, true, false, not}
-use mathlib.Core.List.{List, [], _∷_, _++_, append-nil}
+use mathlib.Core.Path.{_≡_, sym, ap, _∙_}
+use mathlib.Core.List.{List, _++_, append-nil}
 use Prim.Native.Nat.{ℕ, _-_, _≤_, _<_}
 use native.Mathlib.Omega.{arith}
 use lib.ListN.{length, take, replicate}
@@ -9,9 +8,7 @@ use lib.Seq.{take-at, take-length, length-take-le}
 use Rattle.lists.proofs.Cases.{by-order}
 use Rattle.image_rows.specs.declared.ImageRow.{ImageRow}
 use Rattle.image_rows.specs.Rows.{noRow}
-use Rattle.image_rows.specs.declared.Rows.{Rows}
-use Rattle.image_rows.specs.ImageRows.{rowsFit}
-use Rattle.image_rows.specs.Rows.{tooMany, rowsOf, listedOf}
+use Rattle.image_rows.specs.Rows.{rowsOf, listedOf}
 use Rattle.recovery.specs.Recovery.{recoveryOf}
 use Rattle.image_rows.proofs.Tests.{fit-many}
 use Rattle.recovery.proofs.Fold.{upTo, up-all, up-many}

@@ -43,11 +43,11 @@ use Rattle.recovery.specs.Recovery.{
 }
 use Rattle.recovery.specs.Kept.{ScanPre, closedView, ClosePre, CloseDid}
 use Rattle.image_rows.proofs.Order.{inside-at}
-use Rattle.image_rows.proofs.Ids.{IdsFrom, Ids, ids-are}
+use Rattle.image_rows.proofs.Ids.{IdsFrom, ids-are}
 use Rattle.recovery.proofs.Walked.{HeadGood, Runs, images-tell}
 use Rattle.recovery.proofs.Cut.{Whole, kept-empty, cut-whole}
 use Rattle.recovery.proofs.Shaped.{images-slots, slots-length}
-use Rattle.recovery.proofs.Ways.{Roomy, roomy-is, did-refused}
+use Rattle.recovery.proofs.Ways.{roomy-is, did-refused}
 
 -- what the walk asks of sorted rows in an array
 pub walk-pre : (area : List ℕ) (k c n : ℕ) (entries rs : List ImageRow) → k ≤ 64 → c ≤ 2147483648 → length area ≡ k * c → n ≤ 64

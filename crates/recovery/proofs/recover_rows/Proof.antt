@@ -1,11 +1,10 @@
 -- `recovery::recover_rows` meets its contract: each `return` is a way of the definition (proofs/Ways.antt). The area comes back from
 -- `new_log` as it was.
 -- Assumes nothing.
-use mathlib.Core.Path.{_≡_, ap, _∙_}
+use mathlib.Core.Path.{_≡_, ap}
 use lib.ListN.{length}
 use borrow.Author.Needs.{needs}
 use Rattle.seglog.proofs.View.{unmapped}
-use Rattle.recovery.specs.Recovery.{recoveryOf, refused}
 use Rattle.recovery.proofs.Ways.{
   Passed,
   refusal-either,

@@ -1,4 +1,4 @@
--- `recovery::scan` meets its contract: what the scan tells is enough to close the log, by the laws of proofs/Ways.antt.
+-- `recovery::scan` meets its contract: what the scan tells is enough to close the log, by the laws of proofs/Scanned.antt.
 -- Assumes nothing.
 use mathlib.Core.Path.{_≡_}
 use lib.ListN.{length}
