@@ -13,7 +13,7 @@ use Rattle.lists.proofs.Splice.{splice-length}
 use Rattle.lists.specs.Choice.{pick}
 use Rattle.record.proofs.Record.{record-length}
 use Rattle.record.specs.Record.{maxPayload, recordRoom, recordBytes}
-use Rattle.seglog.proofs.Bools.{clash}
+use Rattle.lists.proofs.Bools.{clash}
 use Rattle.seglog.proofs.Slots.{snoc-apart, apart-snoc}
 use Rattle.seglog.proofs.View.{ends-with}
 use Rattle.seglog.specs.Log.{View, freshIn, apartOf, headOf, frontOf, fitsOf}

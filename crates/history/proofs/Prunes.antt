@@ -10,7 +10,7 @@ use lib.ListN.{length, drop, take}
 use lib.Seq.{take-take}
 use borrow.Author.Tests.{eqb-false, ltb-false, ne-eqb, le-ltb, ltb-true, lt-ltb}
 use Rattle.lists.proofs.Cases.{pick-either}
-use Rattle.seglog.proofs.Bools.{clash, and-both, both-and}
+use Rattle.lists.proofs.Bools.{clash, and-both, both-and}
 use Rattle.seglog.proofs.Slots.{fresh-cons, cons-fresh, snoc-apart, apart-snoc}
 use Rattle.seglog.proofs.View.{front-snoc, head-snoc}
 use Rattle.seglog.specs.Log.{View, fitsOf, apartOf, freshIn, frontOf, headOf}

@@ -10,7 +10,7 @@ use lib.ListN.{take, length, replicate}
 use lib.Seq.{take-at}
 use borrow.Author.Tests.{eq-eqb, ne-eqb, eqb-true}
 use Rattle.lists.specs.Choice.{pick}
-use Rattle.seglog.proofs.Bools.{and-both, both-and}
+use Rattle.lists.proofs.Bools.{and-both, both-and}
 use Rattle.seglog.proofs.View.{plain-log, view-log}
 use Rattle.seglog.specs.Log.{View, noSegment, logOf, plainOf, fittingOf, shapedOf, viewOf, sizesOf, emptyOf, zeroLog}
 use Rattle.seglog.specs.New.{newOf, accepted, roomyOf, refusedLog}

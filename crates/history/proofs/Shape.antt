@@ -10,7 +10,7 @@ use lib.ListN.{length, length-append}
 use borrow.Author.Tests.{eq-eqb, le-leb, lt-ltb}
 use Rattle.record.proofs.Record.{record-length, room-ge}
 use Rattle.record.specs.Record.{recordBytes}
-use Rattle.seglog.proofs.Bools.{both-and}
+use Rattle.lists.proofs.Bools.{both-and}
 use Rattle.seglog.proofs.Fit.{sizes-are}
 use Rattle.seglog.proofs.Slots.{Below, pigeons}
 use Rattle.seglog.specs.Log.{nextOf, chainOf, segOf, endsOf, headOf, View, fitsOf, shapedOf, sizesOf}

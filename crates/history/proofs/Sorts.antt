@@ -9,7 +9,7 @@ use lib.Dec.{leb, ltb, eqb}
 use lib.ListN.{length, length-append}
 use borrow.Author.Tests.{le-leb, lt-leb, eqb-false, ne-eqb}
 use Rattle.lists.specs.Choice.{pick}
-use Rattle.seglog.proofs.Bools.{and-both, both-and, clash}
+use Rattle.lists.proofs.Bools.{and-both, both-and, clash}
 use Rattle.image_rows.specs.declared.ImageRow.{ImageRow}
 use Rattle.image_rows.specs.ImageRows.{insertRow, sortRows, rowsInside, freshRow, rowsApart}
 use Rattle.history.specs.Demand.{AnyOrder}

@@ -8,7 +8,7 @@ use lib.Dec.{eqb}
 use borrow.Author.Tests.{eqb-true, eqb-false}
 use Rattle.image_rows.specs.declared.ImageRow.{ImageRow}
 use Rattle.image_rows.specs.ImageRows.{lowestZero, oneApart}
-use Rattle.image_rows.proofs.Facts.{and-both}
+use Rattle.lists.proofs.Bools.{and-both}
 
 -- rows of ids from i on
 abbrev pub IdsFrom : ℕ → List ImageRow → Type 0

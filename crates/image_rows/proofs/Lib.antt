@@ -1,4 +1,3 @@
-pub mod Facts
 pub mod Insert
 pub mod Tests
 pub mod Order

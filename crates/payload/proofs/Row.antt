@@ -15,7 +15,7 @@ use denote.Enum.Declared.{tagOf}
 use Rattle.lists.specs.Choice.{pick, _⇒_, first}
 use Rattle.seglog.specs.declared.Log.{Log}
 use Rattle.seglog.specs.Log.{fittingOf, plainOf, shapedOf, viewOf}
-use Rattle.seglog.proofs.Bools.{and-both}
+use Rattle.lists.proofs.Bools.{and-both}
 use Rattle.payload.specs.declared.RowAnswer.{RowAnswer}
 use Rattle.payload.specs.declared.RowAnswer.the-variants.{Good, NotShaped, Outside}
 use Rattle.payload.specs.Payload.{rowNumber, outsideOf, rowQuestion, GoodRow, payloadBy, payloadOf}

@@ -30,7 +30,7 @@ use Rattle.seglog.specs.Log.{
   endsOf,
 }
 use Rattle.seglog.specs.New.{roomyOf}
-use Rattle.seglog.proofs.Bools.{and-both, both-and}
+use Rattle.lists.proofs.Bools.{and-both, both-and}
 use Rattle.seglog.proofs.Fit.{sizes-are}
 use Rattle.seglog.proofs.View.{plain-log, view-log, head-snoc}
 use Rattle.image_rows.specs.declared.ImageRow.{ImageRow}

@@ -13,7 +13,7 @@ use Rattle.lists.specs.Choice.{_⇒_, first}
 use Rattle.seglog.specs.declared.Segment.{Segment}
 use Rattle.seglog.specs.Log.{noSegment, logOf, headOf}
 use Rattle.seglog.specs.New.{accepted}
-use Rattle.seglog.proofs.Bools.{clash}
+use Rattle.lists.proofs.Bools.{clash}
 use Rattle.seglog.proofs.View.{entriesOf, head-snoc}
 use Rattle.image_rows.specs.declared.ImageRow.{ImageRow}
 use Rattle.recovery_walk.specs.declared.Scan.{Scan}

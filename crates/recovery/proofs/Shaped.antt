@@ -10,7 +10,7 @@ use borrow.Author.Tests.{eq-eqb, le-leb}
 use Rattle.lists.specs.Choice.{pick}
 use Rattle.seglog.specs.declared.Segment.{Segment}
 use Rattle.seglog.specs.Log.{View, headOf, frontOf, freshIn, apartOf, nextOf, chainOf, endsOf, sizesOf, shapedOf, fitsOf}
-use Rattle.seglog.proofs.Bools.{and-both, both-and}
+use Rattle.lists.proofs.Bools.{and-both, both-and}
 use Rattle.seglog.proofs.Fit.{SegmentGood, ChainGood, is-chain, chain-below}
 use Rattle.seglog.proofs.Slots.{Fresh, fresh-cons, cons-fresh, fresh-snoc, snoc-fresh, apart-snoc, snoc-apart, pigeons}
 use Rattle.seglog.proofs.View.{front-snoc, head-snoc}

@@ -17,7 +17,7 @@ use Rattle.lists.proofs.Splice.{part-length}
 use Rattle.page.specs.Page.{paddedEnd}
 use Rattle.page.proofs.Page.{pad-ge, pad-least, pad-multiple}
 use Rattle.seglog.specs.declared.Segment.{Segment}
-use Rattle.seglog.proofs.Bools.{and-both, both-ways}
+use Rattle.lists.proofs.Bools.{and-both, both-ways}
 use Rattle.image_rows.specs.declared.ImageRow.{ImageRow}
 use Rattle.recovery_walk.specs.declared.Scan.{Scan}
 use Rattle.recovery_walk.specs.declared.Step.{Step}

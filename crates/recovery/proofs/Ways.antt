@@ -14,7 +14,7 @@ use Rattle.seglog.specs.declared.Logged.{Logged}
 use Rattle.seglog.specs.Log.{emptyOf, logOf, zeroLog, sizesOf}
 use Rattle.seglog.specs.New.{roomyOf, newOf, refusedLog, accepted}
 use Rattle.seglog.specs.Shape.{SizesObey}
-use Rattle.seglog.proofs.Bools.{and-both}
+use Rattle.lists.proofs.Bools.{and-both}
 use Rattle.seglog.proofs.Fit.{sizes-are}
 use Rattle.image_rows.specs.declared.ImageRow.{ImageRow}
 use Rattle.image_rows.specs.declared.Rows.{Rows}

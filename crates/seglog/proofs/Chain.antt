@@ -11,7 +11,7 @@ use lib.Dec.{eqb, leb}
 use borrow.Author.Tests.{eq-eqb, eqb-true, le-leb, leb-true}
 use Rattle.seglog.specs.declared.Segment.{Segment}
 use Rattle.seglog.specs.Log.{noSegment, headOf, freshIn, apartOf, nextOf, chainOf, endsOf, zeroOf, zerosOf}
-use Rattle.seglog.proofs.Bools.{and-both, both-and}
+use Rattle.lists.proofs.Bools.{and-both, both-and}
 use Rattle.seglog.proofs.View.{zero-entry}
 use Rattle.seglog.proofs.Slots.{Fresh, fresh-cons, cons-fresh}
 use Rattle.seglog.proofs.Fit.{SegmentGood, ChainGood, chain-is, is-chain}

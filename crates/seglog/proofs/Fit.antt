@@ -33,7 +33,7 @@ use Rattle.seglog.specs.Log.{
   fittingOf,
 }
 use Rattle.seglog.specs.Shape.{SizesObey}
-use Rattle.seglog.proofs.Bools.{both-ways, and-both, both-and, not-so, same-test}
+use Rattle.lists.proofs.Bools.{both-ways, and-both, both-and, not-so, same-test}
 use Rattle.seglog.proofs.View.{plain-log, view-log, listed-length, listed-at, listed-head}
 use Rattle.seglog.proofs.Slots.{Below}
 

@@ -1,4 +1,3 @@
-pub mod Bools
 mod Bounds
 pub mod View
 pub mod Slots

@@ -10,7 +10,7 @@ use Rattle.seglog.specs.declared.Log.{Log}
 use Rattle.seglog.specs.declared.Logged.{Logged}
 use Rattle.seglog.specs.Log.{sizesOf, emptyOf, logOf, zeroLog, zerosOf, chainOf, apartOf, endsOf, fittingOf}
 use Rattle.seglog.specs.New.{roomyOf, refusedLog, accepted, newOf}
-use Rattle.seglog.proofs.Bools.{and-both}
+use Rattle.lists.proofs.Bools.{and-both}
 use Rattle.seglog.proofs.Fit.{Fitting, sizes-are, sizes-room, is-fitting}
 
 module _ (k c m n : ℕ) where

@@ -13,7 +13,7 @@ use borrow.Author.Tests.{eq-eqb, ne-eqb}
 use Rattle.lists.proofs.Cases.{by-order}
 use Rattle.seglog.specs.declared.Segment.{Segment}
 use Rattle.seglog.specs.Log.{noSegment, freshIn, apartOf, segOf, nextOf, chainOf, zeroOf, zerosOf}
-use Rattle.seglog.proofs.Bools.{both-ways, and-both, both-and, not-so}
+use Rattle.lists.proofs.Bools.{both-ways, and-both, both-and, not-so}
 use Rattle.seglog.proofs.View.{listed-length, listed-at}
 use Rattle.seglog.proofs.Fit.{seg-is}
 use Rattle.seglog.proofs.Slots.{marksOf, marks-length, mark-none, mark-some}

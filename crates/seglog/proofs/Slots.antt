@@ -13,7 +13,7 @@ use Rattle.lists.specs.Choice.{pick}
 use Rattle.lists.proofs.Cases.{by-test}
 use Rattle.seglog.specs.declared.Segment.{Segment}
 use Rattle.seglog.specs.Log.{freshIn, apartOf}
-use Rattle.seglog.proofs.Bools.{clash, and-both, both-and}
+use Rattle.lists.proofs.Bools.{clash, and-both, both-and}
 
 -- ---- a slot that none has
 

@@ -24,11 +24,7 @@ use borrow.Author.Tests.{le-leb, leb-true, eqb-true}
 use Rattle.seglog.specs.declared.Segment.{Segment}
 use Rattle.seglog.specs.declared.Log.{Log}
 use Rattle.seglog.specs.Log.{noSegment, View, logOf, viewOf, headOf, frontOf, zeroOf, zerosOf, plainOf}
-use Rattle.seglog.proofs.Bools.{and-both}
-
--- the length of an array of structs, as the check has it, is the list's
-pub unmapped : (A B : Type 0) (f : A → B) (l : List A) (n : ℕ) → length (map f l) ≡ n → length l ≡ n
-unmapped A B f l n h = sym (length-map l f) ∙ h
+use Rattle.lists.proofs.Bools.{and-both}
 
 -- ---- from one form to the other
 

@@ -33,7 +33,7 @@ use Rattle.seglog.specs.Log.{
   fitsOf,
   fittingOf,
 }
-use Rattle.seglog.proofs.Bools.{clash, both-and}
+use Rattle.lists.proofs.Bools.{clash, both-and}
 use Rattle.seglog.proofs.View.{ends-with, head-snoc, listed-length}
 use Rattle.seglog.proofs.Slots.{apart-snoc, snoc-apart, pigeons}
 use Rattle.seglog.proofs.Fit.{SegmentGood, Fitting, fitting-both, fitting-is, chain-below, view-shaped, view-fits}

@@ -36,7 +36,7 @@ use Rattle.seglog.specs.Log.{
   fitsOf,
   fittingOf,
 }
-use Rattle.seglog.proofs.Bools.{clash, both-ways, and-both, both-and}
+use Rattle.lists.proofs.Bools.{clash, both-ways, and-both, both-and}
 use Rattle.seglog.proofs.View.{zero-entry, log-view, entriesOf, set-head, set-new, ends-with, listed-length, listed-head}
 use Rattle.seglog.proofs.Slots.{pigeons}
 use Rattle.seglog.proofs.Fit.{Fitting, fitting-both, fitting-is, SegmentGood, chain-is, chain-below, sizes-room}

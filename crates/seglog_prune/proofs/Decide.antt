@@ -17,7 +17,7 @@ use Rattle.seglog.specs.declared.Log.{Log}
 use Rattle.seglog.specs.Log.{viewOf, emptyOf, shapedOf, zerosOf, plainOf}
 use Rattle.seglog.specs.Log.{fitsOf, fittingOf}
 use Rattle.seglog.specs.New.{accepted}
-use Rattle.seglog.proofs.Bools.{and-both}
+use Rattle.lists.proofs.Bools.{and-both}
 use Rattle.seglog.proofs.View.{log-view, listed-length}
 use Rattle.seglog_prune.specs.declared.Early.{Early}
 use Rattle.seglog_prune.specs.declared.Early.the-variants.{Refused, Empty, Same, Onward}

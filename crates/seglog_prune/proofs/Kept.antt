@@ -12,7 +12,7 @@ use Rattle.lists.specs.Choice.{pick}
 use Rattle.lists.proofs.Cases.{pick-either}
 use Rattle.seglog.specs.declared.Segment.{Segment}
 use Rattle.seglog.specs.Log.{noSegment, headOf, freshIn, apartOf, nextOf, chainOf, endsOf}
-use Rattle.seglog.proofs.Bools.{and-both, both-and}
+use Rattle.lists.proofs.Bools.{and-both, both-and}
 use Rattle.seglog.proofs.Slots.{fresh-cons, cons-fresh}
 use Rattle.seglog.proofs.Fit.{SegmentGood, chain-is, is-chain}
 use Rattle.seglog_prune.specs.Prune.{dropOld, keepAt, dropNew, endedAt}

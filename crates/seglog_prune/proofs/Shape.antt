@@ -15,7 +15,7 @@ use Rattle.seglog.specs.declared.Segment.{Segment}
 use Rattle.seglog.specs.declared.Log.{Log}
 use Rattle.seglog.specs.Log.{noSegment, View, logOf, viewOf, emptyOf, headOf, apartOf, chainOf, endsOf, shapedOf, plainOf, fittingOf}
 use Rattle.seglog.specs.Shape.{SizesObey}
-use Rattle.seglog.proofs.Bools.{both-and}
+use Rattle.lists.proofs.Bools.{both-and}
 use Rattle.seglog.proofs.View.{plain-log, view-log, log-view, head-snoc}
 use Rattle.seglog.proofs.Slots.{apart-snoc, snoc-apart}
 use Rattle.seglog.proofs.Fit.{are-sizes, fitting-is}

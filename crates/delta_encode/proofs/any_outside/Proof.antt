@@ -8,7 +8,7 @@ use mathlib.Core.Path.{_≡_, refl, ap, sym, _∙_}
 use lib.ListN.{length, take, drop}
 use native.Mathlib.Omega.{arith}
 use Rattle.keys.specs.Sort.{any}
-use Rattle.keys.proofs.Place.{unmapped}
+use Rattle.lists.proofs.Arrays.{unmapped}
 use Rattle.delta.specs.Table.{erased, rowAt}
 use Rattle.delta_encode.specs.Bytes.{outside}
 use Rattle.delta_encode.proofs.Any.{any-yes, any-no, any-end, outside-yes, outside-absent, outside-within}

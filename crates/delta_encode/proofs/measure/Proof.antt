@@ -5,7 +5,7 @@ use mathlib.Core.List.{[]}
 use mathlib.Core.Path.{_≡_, refl, ap}
 use lib.ListN.{length, take, drop}
 use native.Mathlib.Nat.{le-refl}
-use Rattle.keys.proofs.Place.{unmapped}
+use Rattle.lists.proofs.Arrays.{unmapped}
 use Rattle.delta.specs.Table.{erased, rowAt}
 use Rattle.delta_encode.specs.Bytes.{erases, reinstates, sizeOf, Sized}
 use Rattle.delta_encode.proofs.Bounds.{rows-within, widened, some-left, none-left, left-falls, left-within, last-below, last-fits}

@@ -5,7 +5,7 @@ use mathlib.Core.List.{[]}
 use mathlib.Core.Path.{_≡_, refl, ap, subst}
 use lib.ListN.{length, take, drop}
 use native.Mathlib.Omega.{arith}
-use Rattle.keys.proofs.Place.{unmapped}
+use Rattle.lists.proofs.Arrays.{unmapped}
 use Rattle.delta.specs.Table.{erased, rowsOf, rowAt}
 use Rattle.delta_encode.specs.Bytes.{concat, eraseBytes}
 use Rattle.delta_encode.proofs.Bounds.{row-below, row-fits, index-fits, index-up, index-falls, rows-within, key-end, key-fits}

@@ -7,7 +7,7 @@ use mathlib.Core.Path.{_≡_, refl, ap, subst}
 use lib.ListN.{length, take, drop}
 use Rattle.little_endian.specs.LittleEndian.{leBytes}
 use Rattle.keys.specs.Sort.{any}
-use Rattle.keys.proofs.Place.{unmapped}
+use Rattle.lists.proofs.Arrays.{unmapped}
 use Rattle.delta.specs.Table.{erased, rowsOf, rowAt}
 use Rattle.delta_encode.specs.Bytes.{concat, reinstateBytes, valueOf, outside}
 use Rattle.delta_encode.proofs.Bounds.{row-below, row-fits, index-fits, index-up, index-falls, rows-within, piece-room, piece-end}

@@ -3,7 +3,7 @@
 use mathlib.Core.Path.{_≡_}
 use lib.ListN.{length}
 use borrow.Author.Needs.{needs}
-use Rattle.seglog.proofs.View.{unmapped}
+use Rattle.lists.proofs.Arrays.{unmapped}
 use Rattle.recovery.proofs.Scanned.{walk-asks, did-fault, close-pre, did-close}
 use Rattle.recovery.proofs.scan.Statement.{statement}
 use Rattle.recovery.proofs.scan.Tie as tie

@@ -1,6 +1,6 @@
 -- `ends_good` meets its contract: each test is its own. Assumes nothing.
 use borrow.Author.Tests.{eq-eqb, ne-eqb}
-use Rattle.seglog.proofs.Bools.{and-2, and-4}
+use Rattle.lists.proofs.Bools.{and-2, and-4}
 use Rattle.seglog.proofs.ends_good.Statement.{statement}
 use Rattle.seglog.proofs.ends_good.Tie as tie
 

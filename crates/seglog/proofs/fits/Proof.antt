@@ -8,7 +8,7 @@ use borrow.Author.Tests.{not-true, not-false}
 use Rattle.seglog.specs.Log.{zerosOf}
 use Rattle.seglog.proofs.Bounds.{first-below, entry-fits, index-fits, entry-inside, entries-end, index-falls}
 use Rattle.seglog.proofs.Bounds.{some-left, none-left, left-falls, left-below, last-below}
-use Rattle.seglog.proofs.View.{unmapped}
+use Rattle.lists.proofs.Arrays.{unmapped}
 use Rattle.seglog.proofs.Slots.{marksOf}
 use Rattle.seglog.proofs.Fit.{Sized, sized-is, sized-count, fit-sizes, fit-dirty, fit-listed, fit-ends, ends-by}
 use Rattle.seglog.proofs.Rows.{

@@ -1,5 +1,5 @@
 -- `follows` meets its contract: each test of a number is its own. Assumes nothing.
-use Rattle.seglog.proofs.Bools.{and-2}
+use Rattle.lists.proofs.Bools.{and-2}
 use borrow.Author.Needs.{needs}
 use Rattle.seglog.proofs.follows.Statement.{statement}
 use Rattle.seglog.proofs.follows.Tie as tie

@@ -1,5 +1,5 @@
 -- `is_zero` meets its contract: each test of a number is its own. Assumes nothing.
-use Rattle.seglog.proofs.Bools.{and-5}
+use Rattle.lists.proofs.Bools.{and-5}
 use borrow.Author.Needs.{needs}
 use Rattle.seglog.proofs.is_zero.Statement.{statement}
 use Rattle.seglog.proofs.is_zero.Tie as tie

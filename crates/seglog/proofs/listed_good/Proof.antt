@@ -1,5 +1,5 @@
 -- `listed_good` meets its contract: each test is its own. Assumes nothing.
-use Rattle.seglog.proofs.Bools.{and-or}
+use Rattle.lists.proofs.Bools.{and-or}
 use Rattle.seglog.proofs.listed_good.Statement.{statement}
 use Rattle.seglog.proofs.listed_good.Tie as tie
 

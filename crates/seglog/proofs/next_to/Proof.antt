@@ -4,7 +4,7 @@ use Prim.Native.Nat.{_+_, _-_}
 use native.Mathlib.Omega.{arith}
 use lib.Dec.{eqb}
 use borrow.Author.Tests.{ne-eqb, eqb-true, eq-eqb}
-use Rattle.seglog.proofs.Bools.{same-test}
+use Rattle.lists.proofs.Bools.{same-test}
 use borrow.Author.Needs.{needs}
 use Rattle.seglog.proofs.next_to.Statement.{statement}
 use Rattle.seglog.proofs.next_to.Tie as tie

@@ -8,7 +8,7 @@ use lib.ListN.{length}
 use borrow.Author.Tests.{not-true, not-false}
 use Rattle.record.specs.Record.{recordRoom}
 use Rattle.seglog.specs.Log.{viewOf}
-use Rattle.seglog.proofs.View.{unmapped}
+use Rattle.lists.proofs.Arrays.{unmapped}
 use Rattle.seglog_append.specs.Append.{opensOf, nextId}
 use Rattle.seglog_append.proofs.Bounds.{last-below, entry-fits, count-fits, room-by, full-by}
 use Rattle.seglog_append.proofs.Ways.{

@@ -5,7 +5,7 @@ use mathlib.Core.List.{List}
 use Prim.Native.Nat.{ℕ, _-_, _≤_}
 use native.Mathlib.Omega.{arith}
 use lib.ListN.{length, getD, take}
-use Rattle.seglog.proofs.View.{unmapped}
+use Rattle.lists.proofs.Arrays.{unmapped}
 use Rattle.seglog.proofs.Slots.{marksOf, mark-none, mark-some}
 use Rattle.seglog_append.specs.Append.{freeFrom}
 use Rattle.seglog_append.proofs.Free.{

@@ -2,7 +2,7 @@
 -- Assumes nothing.
 use mathlib.Core.Path.{_≡_, refl}
 use lib.ListN.{length}
-use Rattle.seglog.proofs.View.{unmapped}
+use Rattle.lists.proofs.Arrays.{unmapped}
 use Rattle.seglog_prune.proofs.Ways.{ended-is}
 use borrow.Author.Needs.{needs}
 use Rattle.seglog_prune.proofs.ended.Statement.{statement}

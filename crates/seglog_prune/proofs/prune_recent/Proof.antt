@@ -13,7 +13,7 @@ use Rattle.seglog.specs.declared.Segment.{Segment}
 use Rattle.seglog.specs.Log.{noSegment}
 use Rattle.seglog.specs.Shape.{SizesObey}
 use Rattle.seglog.specs.New.{accepted}
-use Rattle.seglog.proofs.View.{unmapped}
+use Rattle.lists.proofs.Arrays.{unmapped}
 use Rattle.seglog.proofs.Fit.{SegmentGood}
 use Rattle.seglog_prune.specs.declared.Early.the-variants.{Onward}
 use Rattle.seglog_prune.specs.Prune.{cutAt, findCut, imageIn, pruneAnswer, pruneArea}

@@ -3,7 +3,7 @@
 use mathlib.Core.Path.{_≡_}
 use native.Mathlib.Omega.{arith}
 use lib.ListN.{length}
-use Rattle.seglog.proofs.View.{unmapped}
+use Rattle.lists.proofs.Arrays.{unmapped}
 use Rattle.seglog_prune.proofs.Decide.{plain-few}
 use Rattle.seglog_prune.proofs.Ways.{started-is}
 use borrow.Author.Needs.{needs}
