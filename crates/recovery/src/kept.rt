@@ -3,12 +3,12 @@
 ghost use mathlib.Core.Path.{_≡_};
 ghost use Prim.Native.Nat.{_≤_, _+_};
 ghost use lib.ListN.{take};
-ghost use lib.Dec.{leb};
 ghost use Rattle.lists.specs.Choice.{pick};
 ghost use Rattle.seglog.specs.Log.{noSegment};
 ghost use Rattle.recovery.specs.Recovery.{holdsLive, keptOf, closedAt};
 ghost use Rattle.recovery.specs.Kept.{keptIn, ClosePre, CloseDid};
 use crate::Recovered;
+use lists::at_most;
 use recovery_walk::Scanned;
 use seglog::Log;
 use seglog::Segment;
@@ -29,12 +29,6 @@ fn no_segment() -> Segment
         min: 0,
         max: 0,
     }
-}
-
-fn at_most(a: u64, b: u64) -> bool
-    ensures { λ r. ⌜ r ≡ leb a b ⌝ }
-{
-    a <= b
 }
 
 // Whether the segment holds a record from s to e.

@@ -3,12 +3,12 @@
 ghost use mathlib.Core.Path.{_≡_};
 ghost use Prim.Native.Nat.{_<_};
 ghost use lib.ListN.{length, take};
-ghost use lib.Dec.{eqb};
 ghost use Rattle.image_rows.specs.Rows.{noRows, tooMany, putRow, rowsOf, listedOf};
 ghost use Rattle.recovery.specs.Recovery.{refused, scanned, oneZero, recoveryOf, recoveryAnswer, RecoveryDid};
 ghost use Rattle.recovery.specs.Kept.{firstRefusal, ScanPre};
 use image_rows::ImageRow;
 use image_rows::Rows;
+use lists::same;
 use seglog::Log;
 use seglog::Segment;
 
@@ -127,12 +127,6 @@ fn scan(
         return refusal(fault);
     }
     kept::close(k, c, m, area, s, e, count, found)
-}
-
-fn same(a: u64, b: u64) -> bool
-    ensures { λ r. ⌜ r ≡ eqb a b ⌝ }
-{
-    a == b
 }
 
 // Whether exactly one of s, e is 0.

@@ -8,6 +8,9 @@ ghost use lib.Dec.{eqb, leb, ltb};
 ghost use Rattle.lists.specs.Choice.{pick};
 ghost use Rattle.seglog.specs.Log.{sizesOf, segOf, zeroOf, fittingOf, noSegment, emptyOf, logOf};
 ghost use Rattle.seglog.specs.New.{newOf, rangeOf};
+use lists::at_most;
+use lists::below;
+use lists::same;
 
 // One listed segment: its image is the first `size` bytes of its slot.
 #[repr(C)]
@@ -44,24 +47,6 @@ pub struct Logged {
 pub struct LiveRange {
     pub start: u64,
     pub end: u64,
-}
-
-fn same(a: u64, b: u64) -> bool
-    ensures { λ r. ⌜ r ≡ eqb a b ⌝ }
-{
-    a == b
-}
-
-fn at_most(a: u64, b: u64) -> bool
-    ensures { λ r. ⌜ r ≡ leb a b ⌝ }
-{
-    a <= b
-}
-
-fn below(a: u64, b: u64) -> bool
-    ensures { λ r. ⌜ r ≡ ltb a b ⌝ }
-{
-    a < b
 }
 
 // Whether b is one more than a.
