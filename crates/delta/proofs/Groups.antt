@@ -1,25 +1,25 @@
 -- A loop that reads the rows of a group, one behind the other, into a table.
 -- Assumes nothing.
-use Prim.Native.Nat.{ℕ, zero, suc, _+_, _-_, _<_, _≤_}
-use mathlib.Core.Bool.{true, false}
+use Prim.Native.Nat.{ℕ, suc, _+_, _-_, _<_, _≤_}
 use mathlib.Core.List.{List, [], _∷_, _++_}
-use mathlib.Core.Path.{_≡_, refl, ap, sym, subst, _∙_}
+use mathlib.Core.Path.{_≡_, refl, ap, sym, _∙_}
 use lib.ListN.{length, set}
 use lib.Dec.{leb}
 use native.Mathlib.Omega.{arith}
 use borrow.Author.Tests.{le-leb, lt-leb, leb-true, leb-false}
+use Rattle.lists.specs.Outcome.{refused}
 use Rattle.lists.specs.Splice.{part}
+use Rattle.lists.proofs.Bools.{zero-is-not-one}
 use Rattle.lists.proofs.Cases.{by-test}
 use Rattle.little_endian.specs.LittleEndian.{leAt, standAt, u32At}
 use Rattle.little_endian.specs.declared.U32At.{U32At}
 use Rattle.little_endian.specs.declared.U32At.the-variants.{Value, Short}
 use Rattle.little_endian.proofs.LittleEndian.{u32-short, u32-is, u32-stands}
-use Rattle.delta.specs.Table.{erased, reinstated, rowsOf, tableOf, Plain}
-use Rattle.delta.specs.Reading.{Got, Got.short, Got.got, Reading, Reading.ends, Reading.row, eraseAt, reinstateAt, entered, group, prepend}
+use Rattle.delta.specs.Table.{erased, reinstated, rowsOf, Plain}
+use Rattle.delta.specs.Reading.{Got, Got.short, Got.got, Reading, Reading.ends, Reading.row, eraseAt, reinstateAt, group, prepend}
 use Rattle.delta.specs.declared.Row.{Row}
 use Rattle.delta.specs.declared.Table.{Table}
-use Rattle.delta.specs.declared.Decoding.the-variants.{EndsEarly}
-use Rattle.delta.proofs.Plain.{Behind, store-behind}
+use Rattle.delta.proofs.Plain.{store-behind}
 
 -- rows before rows before a reading
 pub prepend-append : (xs ys : List Row) (w : Reading) → prepend (xs ++ ys) w ≡ prepend xs (prepend ys w)
@@ -68,7 +68,7 @@ module _ (at : ℕ → Got) (before : List Row) (n start : ℕ) where
 
     -- the row at p is not whole
     pub grouping-short : i < n → at p ≡ short → (next : ℕ → Reading)
-        → prepend before (group at n start next) ≡ prepend (rowsOf u) (ends EndsEarly)
+        → prepend before (group at n start next) ≡ prepend (rowsOf u) (ends (refused 40))
     unfolding group
     grouping-short h e next =
         let f : n - i ≡ suc (n - (i + 1)) = omega arith in
@@ -96,7 +96,7 @@ module _ (s : List ℕ) (p : ℕ) where
   pub u32-inside : (w : U32At) (v : ℕ) → w ≡ u32At s p → w ≡ Value v → p + 4 ≤ length s
   u32-inside w v e f =
       by-test (standAt 4 s p) (λ h. leb-true (p + 4) (length s) h)
-      (λ h. let q = sym f ∙ e ∙ u32-short s p h in absurd (let z : _≡_ {A = ℕ} 0 1 = cc in omega arith))
+      (λ h. let q = sym f ∙ e ∙ u32-short s p h in zero-is-not-one (cc))
 
   -- a number that was not read does not
   pub u32-outside : (w : U32At) → w ≡ u32At s p → w ≡ Short → length s < p + 4

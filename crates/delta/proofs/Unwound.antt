@@ -1,31 +1,29 @@
 -- A reading taken apart: its rows and its end; what an accepted answer says of them; and what every row that was read is like.
 -- Assumes nothing.
-use Prim.Native.Nat.{ℕ, zero, suc, _+_, _-_, _*_, _^_, _<_, _≤_}
+use Prim.Native.Nat.{ℕ, zero, suc, _+_, _-_, _^_, _<_, _≤_}
 use mathlib.Core.Bool.{Bool, true, false}
-use mathlib.Core.List.{List, [], _∷_, _++_}
+use mathlib.Core.List.{List, [], _∷_}
 use mathlib.Core.Path.{_≡_, refl, ap, sym, subst, _∙_}
-use lib.ListN.{length, getD, length-drop}
-use lib.Seq.{length-take-le}
-use lib.Dec.{ltb, leb}
+use lib.ListN.{length, getD}
+use lib.Dec.{ltb}
 use native.Mathlib.Nat.{pow-suc}
 use native.Mathlib.Omega.{arith}
 use borrow.Author.Tests.{ltb-false, leb-true}
 use Rattle.lists.specs.Choice.{pick}
+use Rattle.lists.specs.Outcome.{Outcome, refused, done}
+use Rattle.lists.proofs.Outcome.{refused-is-not-done}
+use Rattle.lists.proofs.Bools.{zero-is-not-one}
 use Rattle.lists.specs.Splice.{part}
 use Rattle.lists.proofs.Splice.{part-length}
-use Rattle.lists.proofs.Cases.{by-test}
 use Rattle.little_endian.specs.LittleEndian.{leAt, standAt, u32At}
 use Rattle.little_endian.specs.declared.U32At.{U32At}
 use Rattle.little_endian.specs.declared.U32At.the-variants.{Value, Short}
-use Rattle.keys.specs.Sort.{Every, sortBy, clash}
+use Rattle.lists.specs.Each.{Every}
+use Rattle.keys.specs.Sorting.{sortBy, clash}
 use Rattle.delta.specs.Table.{rowKey, erased, reinstated, tableOf}
-use Rattle.delta.specs.Reading.{Got, Got.short, Got.got, Reading, Reading.ends, Reading.row, eraseAt, reinstateAt, entered, counted, group, reinstates, reading, refusedOf, answered, decodedOf, prepend}
+use Rattle.delta.specs.Reading.{Got, Got.short, Got.got, Reading, Reading.ends, Reading.row, eraseAt, reinstateAt, entered}
+use Rattle.delta.specs.Reading.{counted, group, reinstates, reading, DecodeOutcome, answered, decodedOf, prepend}
 use Rattle.delta.specs.declared.Row.{Row}
-use Rattle.delta.specs.declared.Table.{Table}
-use Rattle.delta.specs.declared.Decoded.{Decoded}
-use Rattle.delta.specs.declared.Decoding.{Decoding}
-use Rattle.delta.specs.declared.Decoding.the-variants.{Consumed, EndsEarly, OverLimit, Duplicate}
-use Rattle.delta.proofs.Groups.{u32-inside}
 use Rattle.delta.proofs.Whole.{decoded-read}
 
 -- the rows of a reading
@@ -34,7 +32,7 @@ rowsIn (ends e) = []
 rowsIn (row r w) = r ∷ rowsIn w
 
 -- how it ends
-abbrev pub endOf : Reading → Decoding
+abbrev pub endOf : Reading → Outcome ℕ
 endOf (ends e) = e
 endOf (row r w) = endOf w
 
@@ -47,32 +45,27 @@ unwound (row r w) = ap (row r) (unwound w)
 -- what an accepted answer says of the reading
 pub record Good (most : ℕ) (s : List ℕ) (n : ℕ) : Type 0 where
   pub once : clash rowKey (rowsIn (reading most s)) ≡ false
-  pub end : endOf (reading most s) ≡ Consumed n
-  pub is : decodedOf most s ≡ record { answer = Consumed n; table = tableOf (sortBy rowKey (rowsIn (reading most s))) }
+  pub end : endOf (reading most s) ≡ done n
+  pub is : decodedOf most s ≡ record { answer = done n; table = tableOf (sortBy rowKey (rowsIn (reading most s))) }
 
 -- every accepted answer says so
-pub accepted-good : (most : ℕ) (s : List ℕ) (n : ℕ) → decodedOf most s .answer ≡ Consumed n → Good most s n
+pub accepted-good : (most : ℕ) (s : List ℕ) (n : ℕ) → decodedOf most s .answer ≡ done n → Good most s n
 accepted-good most s n e =
-    go (clash rowKey xs) refl (endOf (reading most s)) refl (sym (ap (λ (d : Decoded). d .answer) d) ∙ e)
+    go (clash rowKey xs) refl (endOf (reading most s)) refl (sym (ap (λ (d : DecodeOutcome). d .answer) d) ∙ e)
   where
     xs : List Row
     xs = rowsIn (reading most s)
 
-    d : decodedOf most s ≡ pick (clash rowKey xs) (refusedOf Duplicate) (answered (endOf (reading most s)) xs)
+    d : decodedOf most s ≡ pick (clash rowKey xs) (answered (refused 42) xs) (answered (endOf (reading most s)) xs)
     d = decoded-read most s xs (endOf (reading most s)) (unwound (reading most s))
 
-    no : {B : Type 0} (f : Decoding) → f ≡ Consumed n → (f ≡ Consumed n → _≡_ {A = ℕ} 0 1) → B
-    no f q z = let o = z q in absurd (omega arith)
-
-    go : (b : Bool) → clash rowKey xs ≡ b → (f : Decoding) → endOf (reading most s) ≡ f
-        → pick b (refusedOf Duplicate) (answered f xs) .answer ≡ Consumed n → Good most s n
-    go true c f g q = no Duplicate q (λ z. cc)
-    go false c (Consumed m) g q =
-        let same : Consumed m ≡ Consumed n = q in
-        record { once = c; end = g ∙ same; is = d ∙ rw (c, g) (ap (λ (k : Decoding). answered k xs) same) }
-    go false c EndsEarly g q = no EndsEarly q (λ z. cc)
-    go false c OverLimit g q = no OverLimit q (λ z. cc)
-    go false c Duplicate g q = no Duplicate q (λ z. cc)
+    go : (b : Bool) → clash rowKey xs ≡ b → (f : Outcome ℕ) → endOf (reading most s) ≡ f
+        → pick b (answered (refused 42) xs) (answered f xs) .answer ≡ done n → Good most s n
+    go true c f g q = refused-is-not-done q
+    go false c (done m) g q =
+        let same : done m ≡ done n = q in
+        record { once = c; end = g ∙ same; is = d ∙ rw (c, g) (ap (λ (k : Outcome ℕ). answered k xs) same) }
+    go false c (refused m) g q = refused-is-not-done q
 
 -- what stands at a position, by whether enough does
 module _ (s : List ℕ) (p : ℕ) where
@@ -84,7 +77,7 @@ module _ (s : List ℕ) (p : ℕ) where
       go : (b : Bool) → standAt 32 s p ≡ b → pick b (got (erased (part p 32 s)) (p + 32)) short ≡ got r q
           → (p + 32 ≤ length s) × (erased (part p 32 s) ≡ r) × (p + 32 ≡ q)
       go true h e = (leb-true (p + 32) (length s) h, cc, cc)
-      go false h e = absurd (let z : _≡_ {A = ℕ} 0 1 = cc in omega arith)
+      go false h e = zero-is-not-one (cc)
 
   abbrev size : ℕ
   size = leAt 4 s (p + 32)
@@ -99,7 +92,7 @@ module _ (s : List ℕ) (p : ℕ) where
           ≡ got r q
           → (p + (36 + size) ≤ length s) × (reinstated (part p 32 s) (p + 36) size ≡ r) × (p + (36 + size) ≡ q)
       go true h e = (leb-true (p + (36 + size)) (length s) h, cc, cc)
-      go false h e = absurd (let z : _≡_ {A = ℕ} 0 1 = cc in omega arith)
+      go false h e = zero-is-not-one (cc)
 
 -- a property of each row that a group gives, and of those behind it
 every-group : (P : Row → Type 0) (at : ℕ → Got) → ((p : ℕ) (r : Row) (q : ℕ) → at p ≡ got r q → P r) → (n p : ℕ) (next : ℕ → Reading)
@@ -118,22 +111,22 @@ pub every-read : (P : Row → Type 0) (most : ℕ) (s : List ℕ) → ((p : ℕ)
 unfolding reading reinstates
 every-read P most s f g = first (u32At s 0)
   where
-    inner : (n p m : ℕ) (b : Bool) → Every P (rowsIn (pick b (ends OverLimit) (group (reinstateAt s) m (p + 4) (λ q. ends (Consumed q)))))
+    inner : (n p m : ℕ) (b : Bool) → Every P (rowsIn (pick b (ends (refused 41)) (group (reinstateAt s) m (p + 4) (λ q. ends (done q)))))
     inner n p m true = tt
-    inner n p m false = every-group P (reinstateAt s) g m (p + 4) (λ q. ends (Consumed q)) (λ q. tt)
+    inner n p m false = every-group P (reinstateAt s) g m (p + 4) (λ q. ends (done q)) (λ q. tt)
 
     second : (n p : ℕ) (w : U32At)
-        → Every P (rowsIn (counted w (λ m. pick (ltb most (n + m)) (ends OverLimit)
-        (group (reinstateAt s) m (p + 4) (λ q. ends (Consumed q))))))
+        → Every P (rowsIn (counted w (λ m. pick (ltb most (n + m)) (ends (refused 41))
+        (group (reinstateAt s) m (p + 4) (λ q. ends (done q))))))
     second n p Short = tt
     second n p (Value m) = inner n p m (ltb most (n + m))
 
-    outer : (n : ℕ) (b : Bool) → Every P (rowsIn (pick b (ends OverLimit) (group (eraseAt s) n 4 (λ p. reinstates most s n p))))
+    outer : (n : ℕ) (b : Bool) → Every P (rowsIn (pick b (ends (refused 41)) (group (eraseAt s) n 4 (λ p. reinstates most s n p))))
     outer n true = tt
     outer n false = every-group P (eraseAt s) f n 4 (λ p. reinstates most s n p) (λ p. second n p (u32At s p))
 
     first : (w : U32At) → Every P
-        (rowsIn (counted w (λ n. pick (ltb most n) (ends OverLimit) (group (eraseAt s) n 4 (λ p. reinstates most s n p)))))
+        (rowsIn (counted w (λ n. pick (ltb most n) (ends (refused 41)) (group (eraseAt s) n 4 (λ p. reinstates most s n p)))))
     first Short = tt
     first (Value n) = outer n (ltb most n)
 
@@ -155,30 +148,30 @@ unfolding reading reinstates
 count-read most s = first (u32At s 0)
   where
     inner : (n p m : ℕ) (b : Bool) → ltb most (n + m) ≡ b → n ≤ most
-        → length (rowsIn (pick b (ends OverLimit) (group (reinstateAt s) m (p + 4) (λ q. ends (Consumed q))))) ≤ most - n
+        → length (rowsIn (pick b (ends (refused 41)) (group (reinstateAt s) m (p + 4) (λ q. ends (done q))))) ≤ most - n
     inner n p m true h l = omega arith
     inner n p m false h l = omega (
       arith,
-      count-group (reinstateAt s) m (p + 4) (λ q. ends (Consumed q)) 0
+      count-group (reinstateAt s) m (p + 4) (λ q. ends (done q)) 0
           (λ q. omega arith),
       ltb-false most (n + m) h,
     )
 
     second : (n p : ℕ) (w : U32At) → n ≤ most
-        → length (rowsIn (counted w (λ m. pick (ltb most (n + m)) (ends OverLimit)
-        (group (reinstateAt s) m (p + 4) (λ q. ends (Consumed q)))))) ≤ most - n
+        → length (rowsIn (counted w (λ m. pick (ltb most (n + m)) (ends (refused 41))
+        (group (reinstateAt s) m (p + 4) (λ q. ends (done q)))))) ≤ most - n
     second n p Short l = omega arith
     second n p (Value m) l = inner n p m (ltb most (n + m)) refl l
 
     outer : (n : ℕ) (b : Bool) → ltb most n ≡ b
-        → length (rowsIn (pick b (ends OverLimit) (group (eraseAt s) n 4 (λ p. reinstates most s n p)))) ≤ most
+        → length (rowsIn (pick b (ends (refused 41)) (group (eraseAt s) n 4 (λ p. reinstates most s n p)))) ≤ most
     outer n true h = omega arith
     outer n false h =
         let l = ltb-false most n h in
         omega (arith, count-group (eraseAt s) n 4 (λ p. reinstates most s n p) (most - n) (λ p. second n p (u32At s p) l))
 
     first : (w : U32At) → length
-        (rowsIn (counted w (λ n. pick (ltb most n) (ends OverLimit) (group (eraseAt s) n 4 (λ p. reinstates most s n p))))) ≤ most
+        (rowsIn (counted w (λ n. pick (ltb most n) (ends (refused 41)) (group (eraseAt s) n 4 (λ p. reinstates most s n p))))) ≤ most
     first Short = omega arith
     first (Value n) = outer n (ltb most n) refl
 
@@ -210,7 +203,7 @@ sound-read most s b =
     let g = erase-is s p r q e in
     let l = part-length p 32 s (g .0) in
     subst (λ (x : Row). Sound s x) (g .1)
-    (record { keyed = l; small = omega arith; inside = λ z. absurd (let o : _≡_ {A = ℕ} 0 1 = cc in omega arith) }))
+    (record { keyed = l; small = omega arith; inside = λ z. zero-is-not-one (cc) }))
     (λ p r q e.
     let g = reinstate-is s p r q e in
     let h = g .0 in

@@ -1,27 +1,27 @@
 -- Asking for a key twice after the reading comes to the same as asking at each row; and the two groups of a reading, taken together.
 -- Assumes nothing.
-use Prim.Native.Nat.{ℕ, zero, suc, _+_, _-_, _<_, _≤_}
-use mathlib.Core.Bool.{Bool, true, false, _||_}
-use mathlib.Core.List.{List, [], _∷_, _++_, append-assoc, append-nil, Permᴰ·middle}
+use Prim.Native.Nat.{ℕ, _+_, _-_, _<_, _≤_}
+use mathlib.Core.Bool.{Bool, true, false}
+use mathlib.Core.List.{List, [], _∷_, _++_, append-assoc, append-nil}
 use mathlib.Core.Logic.{⊎-elim}
-use mathlib.Core.Path.{_≡_, refl, ap, ap₂, sym, subst, _∙_}
-use lib.ListN.{length}
+use mathlib.Core.Path.{_≡_, refl, ap, sym, subst, _∙_}
 use native.Mathlib.Omega.{arith}
 use borrow.Author.Tests.{lt-ltb, le-ltb}
 use denote.Enum.Declared as Declared
 use types.Run.{OneOf}
 use Rattle.lists.specs.Choice.{pick}
+use Rattle.lists.specs.Outcome.{Outcome, refused, done}
 use Rattle.little_endian.specs.LittleEndian.{u32At}
 use Rattle.little_endian.specs.declared.U32At.{U32At}
 use Rattle.little_endian.specs.declared.U32At.the-variants.{Value, Short}
-use Rattle.keys.specs.Sort.{has, any, sortBy, clash}
-use Rattle.keys.proofs.Sorting.{perm-clash}
+use Rattle.keys.specs.Sorting.{has, sortBy, clash}
+use Rattle.lists.proofs.Each.{any-append}
+use Rattle.keys.proofs.Sorting.{clash-middle}
 use Rattle.delta.specs.Table.{rowKey, rowsOf, tableOf, Plain, arrangedOf}
-use Rattle.delta.specs.Reading.{Reading, Reading.ends, Reading.row, eraseAt, reinstateAt, counted, group, reinstates, reading, walk, refusedOf, answered, decodedOf, prepend, onward, Reads, WholeRead}
+use Rattle.delta.specs.Reading.{Reading, Reading.ends, eraseAt, reinstateAt, group, reinstates, reading, walk, decodingOutcome}
+use Rattle.delta.specs.Reading.{decodeOutcome, refusedOf, answered, decodedOf, prepend, onward, Reads, WholeRead}
 use Rattle.delta.specs.declared.Row.{Row}
-use Rattle.delta.specs.declared.Table.{Table}
 use Rattle.delta.specs.declared.Read.{Read}
-use Rattle.delta.specs.declared.Decoded.{Decoded}
 use Rattle.delta.specs.declared.Arranged.{Arranged}
 use Rattle.delta.specs.declared.Decoding.{Decoding}
 use Rattle.delta.specs.declared.Decoding.the-variants.{Consumed, EndsEarly, OverLimit, Duplicate}
@@ -29,52 +29,41 @@ use Rattle.delta.proofs.Decoding as DecodingType
 use Rattle.delta.proofs.Plain.{table-plain}
 use Rattle.delta.proofs.Arranging.{arranged-clash, arranged-table}
 
-any-append : {A : Type 0} (p : A → Bool) (xs ys : List A) → any p (xs ++ ys) ≡ any p xs || any p ys
-unfolding any
-any-append p [] ys = refl
-any-append p (x ∷ xs) ys = ap (λ (t : Bool). p x || t) (any-append p xs ys) ∙ assoc (p x) (any p xs) (any p ys)
-  where
-    assoc : (a b c : Bool) → a || (b || c) ≡ (a || b) || c
-    assoc true b c = refl
-    assoc false b c = refl
-
 -- a row whose key an earlier one has
 clash-met : (seen : List Row) (r : Row) (xs : List Row) → has rowKey (r .key) seen ≡ true → clash rowKey (seen ++ (r ∷ xs)) ≡ true
-unfolding clash
-clash-met seen r xs h = perm-clash rowKey (Permᴰ·middle r seen xs) ∙ rw (any-append _ seen xs, h)
+clash-met seen r xs h = clash-middle rowKey seen r xs ∙ rw (any-append _ seen xs, h)
 
 -- a row whose key no earlier one has
 clash-new : (seen : List Row) (r : Row) → has rowKey (r .key) seen ≡ false → clash rowKey seen ≡ false
     → clash rowKey (seen ++ (r ∷ [])) ≡ false
-unfolding clash
-clash-new seen r h c = perm-clash rowKey (Permᴰ·middle r seen []) ∙ rw (append-nil, h, c)
+clash-new seen r h c = clash-middle rowKey seen r [] ∙ rw (append-nil, h, c)
 
 -- asking at each row whether an earlier one has its key is asking at the end whether two have one key
-pub walk-rows : (seen xs : List Row) (e : Decoding) → clash rowKey seen ≡ false
-    → walk seen (prepend xs (ends e)) ≡ pick (clash rowKey (seen ++ xs)) (Duplicate, []) (e, seen ++ xs)
+pub walk-rows : (seen xs : List Row) (e : Outcome ℕ) → clash rowKey seen ≡ false
+    → walk seen (prepend xs (ends e)) ≡ pick (clash rowKey (seen ++ xs)) (refused 42, []) (e, seen ++ xs)
 unfolding walk prepend
 walk-rows seen [] e c = rw (append-nil, c)
 walk-rows seen (x ∷ xs) e c = go (has rowKey (x .key) seen) refl (λ n. walk-rows (seen ++ (x ∷ [])) xs e (clash-new seen x n c))
   where
     go : (b : Bool) → has rowKey (x .key) seen ≡ b
         → (has rowKey (x .key) seen ≡ false → walk (seen ++ (x ∷ [])) (prepend xs (ends e))
-        ≡ pick (clash rowKey ((seen ++ (x ∷ [])) ++ xs)) (Duplicate, []) (e, (seen ++ (x ∷ [])) ++ xs))
-        → pick b (Duplicate, []) (walk (seen ++ (x ∷ [])) (prepend xs (ends e)))
-        ≡ pick (clash rowKey (seen ++ (x ∷ xs))) (Duplicate, []) (e, seen ++ (x ∷ xs))
+        ≡ pick (clash rowKey ((seen ++ (x ∷ [])) ++ xs)) (refused 42, []) (e, (seen ++ (x ∷ [])) ++ xs))
+        → pick b (refused 42, []) (walk (seen ++ (x ∷ [])) (prepend xs (ends e)))
+        ≡ pick (clash rowKey (seen ++ (x ∷ xs))) (refused 42, []) (e, seen ++ (x ∷ xs))
     go true h ih = rw (clash-met seen x xs h)
-    go false h ih = ih h ∙ ap (λ (l : List Row). pick (clash rowKey l) (Duplicate, []) (e, l)) (append-assoc seen (x ∷ []) xs)
+    go false h ih = ih h ∙ ap (λ (l : List Row). pick (clash rowKey l) (refused 42, []) (e, l)) (append-assoc seen (x ∷ []) xs)
 
 -- what decoding answers, by the rows that were read in full and how the reading ended
-pub decoded-read : (most : ℕ) (s : List ℕ) (xs : List Row) (e : Decoding) → reading most s ≡ prepend xs (ends e)
-    → decodedOf most s ≡ pick (clash rowKey xs) (refusedOf Duplicate) (answered e xs)
+pub decoded-read : (most : ℕ) (s : List ℕ) (xs : List Row) (e : Outcome ℕ) → reading most s ≡ prepend xs (ends e)
+    → decodedOf most s ≡ pick (clash rowKey xs) (answered (refused 42) xs) (answered e xs)
 decoded-read most s xs e q =
-    ap (λ (w : Decoding × List Row). answered (w .0) (w .1)) (ap (walk []) q ∙ walk-rows [] xs e none) ∙ go (clash rowKey xs)
+    ap (λ (w : Outcome ℕ × List Row). answered (w .0) (w .1)) (ap (walk []) q ∙ walk-rows [] xs e none) ∙ go (clash rowKey xs)
   where
     none : clash rowKey [] ≡ false
     none = unfold clash in refl
 
-    go : (b : Bool) → answered (pick {A = Decoding × List Row} b (Duplicate, []) (e, xs) .0)
-        (pick {A = Decoding × List Row} b (Duplicate, []) (e, xs) .1) ≡ pick b (refusedOf Duplicate) (answered e xs)
+    go : (b : Bool) → answered (pick {A = Outcome ℕ × List Row} b (refused 42, []) (e, xs) .0)
+        (pick {A = Outcome ℕ × List Row} b (refused 42, []) (e, xs) .1) ≡ pick b (answered (refused 42) xs) (answered e xs)
     go true = refl
     go false = refl
 
@@ -93,25 +82,28 @@ other-refused EndsEarly h = tt
 other-refused OverLimit h = tt
 other-refused Duplicate h = tt
 
-onward-refused : (d : Decoding) (next : ℕ → Reading) → Refused d → onward d next ≡ ends d
+onward-refused : (d : Decoding) (next : ℕ → Reading) → Refused d
+    → onward (decodingOutcome d) next ≡ ends (decodingOutcome d)
 onward-refused (Consumed n) next h = absurd h
 onward-refused EndsEarly next h = refl
 onward-refused OverLimit next h = refl
 onward-refused Duplicate next h = refl
 
-answered-refused : (d : Decoding) (xs : List Row) → Refused d → answered d xs ≡ refusedOf d
+answered-refused : (d : Decoding) (xs : List Row) → Refused d
+    → answered (decodingOutcome d) xs ≡ decodeOutcome (refusedOf d)
 answered-refused (Consumed n) xs h = absurd h
 answered-refused EndsEarly xs h = refl
 answered-refused OverLimit xs h = refl
 answered-refused Duplicate xs h = refl
 
 -- a reading that ended before the first row
-read-nothing : (most : ℕ) (s : List ℕ) (e : Decoding) (r : Read) → reading most s ≡ ends e → r ≡ record { answer = e; table = tableOf [] }
+read-nothing : (most : ℕ) (s : List ℕ) (e : Decoding) (r : Read) → reading most s ≡ ends (decodingOutcome e)
+    → r ≡ record { answer = e; table = tableOf [] }
     → WholeRead most s r
 unfolding prepend
 read-nothing most s e r q w =
     record {
-      same = q ∙ sym (ap (λ (x : Read). prepend (rowsOf (x .table)) (ends (x .answer))) w);
+      same = q ∙ sym (ap (λ (x : Read). prepend (rowsOf (x .table)) (ends (decodingOutcome (x .answer)))) w);
       plain = subst (λ (x : Read). Plain (x .table)) (sym w) (table-plain []);
     }
 
@@ -130,7 +122,7 @@ module _ (most : ℕ) (s : List ℕ) (w : U32At) (e : w ≡ u32At s 0) where
       unfolding reading
       first-group = rw (sym e ∙ f, le-ltb most n h)
 
-      erases : reading most s ≡ prepend (rowsOf (r .table)) (onward (r .answer) (reinstates most s n))
+      erases : reading most s ≡ prepend (rowsOf (r .table)) (onward (decodingOutcome (r .answer)) (reinstates most s n))
       erases = first-group ∙ (unfold prepend in (g .same (reinstates most s n)))
 
       -- the erase group is not whole
@@ -143,7 +135,7 @@ module _ (most : ℕ) (s : List ℕ) (w : U32At) (e : w ≡ u32At s 0) where
 
       module _ (p : ℕ) (k : r .answer ≡ Consumed p) (v : U32At) (c : v ≡ u32At s p) where
         behind : reading most s ≡ prepend (rowsOf (r .table)) (reinstates most s n p)
-        behind = erases ∙ ap (λ (d : Decoding). prepend (rowsOf (r .table)) (onward d (reinstates most s n))) k
+        behind = erases ∙ ap (λ (d : Decoding). prepend (rowsOf (r .table)) (onward (decodingOutcome d) (reinstates most s n))) k
 
         -- the reinstate count is not whole
         pub read-cut : v ≡ Short → WholeRead most s (record { answer = EndsEarly; table = r .table })
@@ -164,43 +156,44 @@ module _ (most : ℕ) (s : List ℕ) (w : U32At) (e : w ≡ u32At s 0) where
           read-both o size' q z =
               record {
                 same = behind ∙ ap (prepend (rowsOf (r .table))) both
-                    ∙ z .same (λ i. ends (Consumed i)) ∙ ap (prepend (rowsOf (q .table))) (last (q .answer));
+                    ∙ z .same (λ i. ends (done i)) ∙ ap (prepend (rowsOf (q .table))) (last (decodingOutcome (q .answer)));
                 plain = z .plain;
               }
             where
-              both : reinstates most s n p ≡ group (reinstateAt s) m (p + 4) (λ q. ends (Consumed q))
+              both : reinstates most s n p ≡ group (reinstateAt s) m (p + 4) (λ q. ends (done q))
               both = unfold reinstates in rw (sym c ∙ b, le-ltb most (n + m) o)
 
-              last : (d : Decoding) → onward d (λ i. ends (Consumed i)) ≡ ends d
-              last (Consumed i) = refl
-              last EndsEarly = refl
-              last OverLimit = refl
-              last Duplicate = refl
+              last : (d : Outcome ℕ) → onward d (λ i. ends (done i)) ≡ ends d
+              last (done i) = refl
+              last (refused i) = refl
 
 -- what `decode` answers, by the rows put in order
 module _ (most : ℕ) (s : List ℕ) (r : Read) (w : WholeRead most s r) (a : Arranged) (q : a ≡ arrangedOf (rowsOf (r .table))) where
-  whole : decodedOf most s ≡ pick (clash rowKey (rowsOf (r .table))) (refusedOf Duplicate) (answered (r .answer) (rowsOf (r .table)))
-  whole = decoded-read most s (rowsOf (r .table)) (r .answer) (w .same)
+  whole : decodedOf most s
+      ≡ pick (clash rowKey (rowsOf (r .table))) (decodeOutcome (refusedOf Duplicate))
+      (answered (decodingOutcome (r .answer)) (rowsOf (r .table)))
+  whole = decoded-read most s (rowsOf (r .table)) (decodingOutcome (r .answer)) (w .same)
 
   -- a key twice
-  pub decode-twins : a .twins ≡ true → decodedOf most s ≡ refusedOf Duplicate
+  pub decode-twins : a .twins ≡ true → decodedOf most s ≡ decodeOutcome (refusedOf Duplicate)
   decode-twins t =
       let c : clash rowKey (rowsOf (r .table)) ≡ true = arranged-clash (rowsOf (r .table)) a q ∙ t in
       whole ∙ rw c
 
   module _ (t : a .twins ≡ false) where
-    once : decodedOf most s ≡ answered (r .answer) (rowsOf (r .table))
+    once : decodedOf most s ≡ answered (decodingOutcome (r .answer)) (rowsOf (r .table))
     once =
         let c : clash rowKey (rowsOf (r .table)) ≡ false = arranged-clash (rowsOf (r .table)) a q ∙ t in
         whole ∙ rw c
 
     -- another fault
-    pub decode-fault : Refused (r .answer) → decodedOf most s ≡ refusedOf (r .answer)
+    pub decode-fault : Refused (r .answer) → decodedOf most s ≡ decodeOutcome (refusedOf (r .answer))
     decode-fault b = once ∙ answered-refused (r .answer) (rowsOf (r .table)) b
 
     -- no fault
-    pub decode-good : (n : ℕ) → r .answer ≡ Consumed n → _≡_ {A = Decoded} (record { answer = Consumed n; table = a .table })
-        (decodedOf most s)
+    pub decode-good : (n : ℕ) → r .answer ≡ Consumed n → decodeOutcome (record { answer = Consumed n; table = a .table })
+        ≡ decodedOf most s
     decode-good n e =
         let c : a .table ≡ tableOf (sortBy rowKey (rowsOf (r .table))) = arranged-table (rowsOf (r .table)) a q t in
-        (λ i. record { answer = Consumed n; table = c i }) ∙ sym (once ∙ ap (λ (d : Decoding). answered d (rowsOf (r .table))) e)
+        (λ i. record { answer = done n; table = c i })
+        ∙ sym (once ∙ ap (λ (d : Decoding). answered (decodingOutcome d) (rowsOf (r .table))) e)

@@ -1,15 +1,14 @@
 -- A loop that looks for a row whose value lies outside.
 -- Assumes nothing.
-use Prim.Native.Nat.{ℕ, zero, suc, _+_, _<_, _≤_}
-use mathlib.Core.Bool.{Bool, true, false, _||_}
-use mathlib.Core.List.{List, [], _∷_}
-use mathlib.Core.Path.{_≡_, refl, ap, sym, _∙_}
+use Prim.Native.Nat.{ℕ, _+_, _<_, _≤_}
+use mathlib.Core.Bool.{Bool, true, false}
+use mathlib.Core.List.{List}
+use mathlib.Core.Path.{_≡_}
 use lib.ListN.{length, getD, take, drop, drop-of-length-le}
 use lib.Seq.{length-take-le}
-use native.Mathlib.Omega.{arith}
 use borrow.Author.Tests.{lt-ltb, le-ltb}
-use Rattle.keys.specs.Sort.{any}
-use Rattle.keys.proofs.Place.{front}
+use Rattle.lists.specs.Each.{any}
+use Rattle.lists.proofs.Arrays.{front}
 use Rattle.delta.specs.declared.Row.{Row}
 use Rattle.delta_encode.specs.Bytes.{outside}
 

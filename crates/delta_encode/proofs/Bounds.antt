@@ -8,20 +8,8 @@ use mir.Val.{Fits}
 
 -- ---- the row i of the first n rows
 
-pub row-below : {i n : ℕ} → i < n → n ≤ 256 → i < 256
-row-below h s = omega arith
-
 pub row-fits : {i n : ℕ} → i < n → n ≤ 256 → Fits w64 (i * 56)
 row-fits h s = omega arith
-
-pub index-fits : {i n : ℕ} → i < n → n ≤ 256 → Fits w64 (i + 1)
-index-fits h s = omega arith
-
-pub index-up : {i n : ℕ} → i < n → i + 1 ≤ n
-index-up h = omega arith
-
-pub index-falls : {i n : ℕ} → i < n → n - (i + 1) < n - i
-index-falls h = omega arith
 
 pub rows-within : {n l : ℕ} → n ≤ 256 → l ≡ 256 → n ≤ l
 rows-within h e = omega arith
@@ -57,28 +45,10 @@ row-end p n = omega arith
 pub part-fits : (p n : ℕ) {l : ℕ} → p + n ≤ l → l < 2 ^ 63 → Fits w64 (p + n)
 part-fits p n h s = omega arith
 
-pub part-first : (p n : ℕ) → p ≤ p + n
-part-first p n = omega arith
-
-pub part-size : (p n : ℕ) → p + n - p ≡ n
-part-size p n = omega arith
-
 -- ---- measuring, from the last row to the first: i rows are left, e and k are counted, a row takes 4294967332 bytes at most
 
 pub widened : {n : ℕ} → Fits w32 n → Fits w64 n
 widened f = omega (arith, f .fits)
-
-pub some-left : {i : ℕ} → 0 < i → 1 ≤ i
-some-left h = omega arith
-
-pub none-left : {i : ℕ} → i ≤ 0 → i ≡ 0
-none-left h = omega arith
-
-pub left-falls : {i : ℕ} → 0 < i → i - 1 < i
-left-falls h = omega arith
-
-pub left-within : {i n : ℕ} → i ≤ n → i - 1 ≤ n
-left-within h = omega arith
 
 pub last-below : {i n : ℕ} → i ≤ n → n ≤ 256 → i - 1 < 256
 last-below h s = omega arith

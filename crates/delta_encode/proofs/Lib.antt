@@ -1,4 +1,5 @@
 mod Bounds
+pub mod Bytes
 pub mod Any
 pub mod Writes
 pub mod Whole

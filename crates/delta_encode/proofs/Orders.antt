@@ -1,35 +1,37 @@
 -- Tables with the same rows in another order are encoded to the same bytes; a decoded table, encoded over its input, decodes to the same.
 -- Assumes nothing.
-use Prim.Native.Nat.{ℕ, zero, suc, _+_, _<_, _≤_}
-use mathlib.Core.Bool.{Bool, true, false, _||_}
-use mathlib.Core.List.{List, [], _∷_, _++_, List·Permᴰ, Permᴰ·symm}
+use Prim.Native.Nat.{ℕ, _+_, _<_, _≤_}
+use mathlib.Core.Bool.{Bool, true, false}
+use mathlib.Core.List.{List, [], _∷_, _++_}
 use mathlib.Core.Path.{_≡_, refl, ap, sym, subst, _∙_}
 use lib.ListN.{length}
 use lib.Dec.{ltb}
 use native.Mathlib.Omega.{arith}
 use borrow.Author.Tests.{le-ltb}
 use Rattle.lists.specs.Choice.{pick}
-use Rattle.keys.specs.Sort.{sortBy, clash, any, Every, Ascending}
-use Rattle.keys.proofs.Sorting.{perm-any, perm-every, perm-length, perm-clash, sort-perm, sort-order, sort-unique, ascending-sort, ascending-clash}
-use mathlib.Core.List.{Permᴰ·refl}
+use Rattle.lists.specs.Outcome.{refused, done}
+use Rattle.lists.specs.Each.{any, Every}
+use Rattle.keys.specs.Sorting.{sortBy, clash, Ascending}
+use Rattle.lists.specs.AnyOrder.{AnyOrder}
+use Rattle.lists.proofs.AnyOrder.{any-refl, any-any, any-every}
+use Rattle.lists.proofs.Each.{every-map}
+use Rattle.lists.proofs.Sort.{sort-length}
+use Rattle.keys.specs.Order.{below}
+use Rattle.keys.proofs.Sorting.{clash-any, sort-any, sort-order, sort-unique, ascending-sort, ascending-clash}
 use Rattle.delta.specs.Table.{rowKey, rowsOf, tableOf}
-use Rattle.delta.specs.Reading.{reading, decodedOf}
+use Rattle.delta.specs.Reading.{reading, DecodeOutcome, decodedOf}
 use Rattle.delta.specs.declared.Row.{Row}
 use Rattle.delta.specs.declared.Table.{Table}
-use Rattle.delta.specs.declared.Decoded.{Decoded}
-use Rattle.delta.specs.declared.Decoding.the-variants.{Consumed}
 use Rattle.delta.proofs.Plain.{rows-table}
 use Rattle.delta.proofs.Unwound.{rowsIn, Good, accepted-good, Bytes, Sound, sound-read, count-read}
-use Rattle.delta_encode.specs.Bytes.{outside, deltaBytes, bytesOf, encodedOf, written, afterOf, Keyed}
-use Rattle.delta_encode.specs.Entries.{entries, Small, Shaped}
-use Rattle.delta_encode.specs.declared.Encoded.{Encoded}
-use Rattle.delta_encode.specs.declared.Encoded.the-variants.{Written, Outside, Duplicate, Short}
+use Rattle.delta_encode.specs.Bytes.{outside, deltaBytes, bytesOf, encodedOf, written, afterOf}
+use Rattle.delta_encode.specs.Entries.{entries, Shaped}
 use Rattle.delta_encode.proofs.RoundTrip.{GivesBack, encode-decode}
 
 -- two tables with the same rows, up to their order
 pub record SameRows (t u : Table) : Type 0 where
   pub count : t .count ≡ u .count
-  pub rows : List·Permᴰ (rowsOf t) (rowsOf u)
+  pub rows : AnyOrder (rowsOf t) (rowsOf u)
 
 -- they are encoded to the same bytes, and refused alike
 pub encode-order : (most : ℕ) (t u : Table) (v out : List ℕ) → SameRows t u
@@ -41,34 +43,30 @@ encode-order most t u v out w = go (clash rowKey (rowsOf t)) refl
     few = ap (ltb most) (w .count)
 
     inside : any (outside (length v)) (rowsOf t) ≡ any (outside (length v)) (rowsOf u)
-    inside = perm-any (outside (length v)) (w .rows)
+    inside = any-any (outside (length v)) (rowsOf t) (rowsOf u) (w .rows)
 
     once : clash rowKey (rowsOf t) ≡ clash rowKey (rowsOf u)
-    once = perm-clash rowKey (w .rows)
+    once = clash-any rowKey (rowsOf t) (rowsOf u) (w .rows)
 
     -- a key twice: a refusal before the bytes count, whichever they are
-    refused : (x y : Bool) (bt bu : List ℕ)
-        → written (pick x Outside (pick y Outside Duplicate)) bt out ≡ written (pick x Outside (pick y Outside Duplicate)) bu out
-    refused true y bt bu = refl
-    refused false true bt bu = refl
-    refused false false bt bu = refl
+    stays : (x y : Bool) (bt bu : List ℕ)
+        → written (pick x (refused 43) (pick y (refused 43) (refused 42))) bt out
+        ≡ written (pick x (refused 43) (pick y (refused 43) (refused 42))) bu out
+    stays true y bt bu = refl
+    stays false true bt bu = refl
+    stays false false bt bu = refl
 
     go : (b : Bool) → clash rowKey (rowsOf t) ≡ b → (encodedOf most t v out ≡ encodedOf most u v out)
         × (afterOf most t v out ≡ afterOf most u v out)
     go true c =
         let d : clash rowKey (rowsOf u) ≡ true = sym once ∙ c in (
           rw (few, inside, c, d),
-          rw (few, inside, c, d) (refused (ltb most (u .count)) (any (outside (length v)) (rowsOf u)) (bytesOf t v)
+          rw (few, inside, c, d) (stays (ltb most (u .count)) (any (outside (length v)) (rowsOf u)) (bytesOf t v)
               (bytesOf u v)),
         )
     go false c =
         let b : bytesOf t v ≡ bytesOf u v = ap (deltaBytes v) (sort-order rowKey (rowsOf t) (rowsOf u) c (w .rows)) in
         (rw (few, inside, once, b), rw (few, inside, once, b))
-
--- what is known of each of several rows
-every-map : (P Q : Row → Type 0) (xs : List Row) → ((r : Row) → P r → Q r) → Every P xs → Every Q xs
-every-map P Q [] f h = tt
-every-map P Q (x ∷ xs) f h = (f x (h .0), every-map P Q xs f (h .1))
 
 -- rows whose values lie inside
 none-outside : (s : List ℕ) (xs : List Row) → Every (Sound s) xs → any (outside (length s)) xs ≡ false
@@ -80,16 +78,16 @@ none-outside s (x ∷ xs) h = rw (one (x .present) refl) (none-outside s xs (h .
     one true p = rw (p, le-ltb (length s) (x .offset + x .length) (h .0 .inside p))
     one false p = rw p
 
-module _ (s : List ℕ) (b : Bytes s) (n : ℕ) (t : Table) (e : decodedOf 256 s ≡ record { answer = Consumed n; table = t }) where
+module _ (s : List ℕ) (b : Bytes s) (n : ℕ) (t : Table) (e : decodedOf 256 s ≡ record { answer = done n; table = t }) where
   good : Good 256 s n
-  good = accepted-good 256 s n (ap (λ (d : Decoded). d .answer) e)
+  good = accepted-good 256 s n (ap (λ (d : DecodeOutcome). d .answer) e)
 
   read : List Row
   read = rowsIn (reading 256 s)
 
   table-is : t ≡ tableOf (sortBy rowKey read)
   unfolding read
-  table-is = sym (ap (λ (d : Decoded). d .table) e) ∙ ap (λ (d : Decoded). d .table) (good .is)
+  table-is = sym (ap (λ (d : DecodeOutcome). d .table) e) ∙ ap (λ (d : DecodeOutcome). d .table) (good .is)
 
   rows-are : rowsOf t ≡ sortBy rowKey read
   rows-are = ap rowsOf table-is ∙ rows-table (sortBy rowKey read)
@@ -98,7 +96,7 @@ module _ (s : List ℕ) (b : Bytes s) (n : ℕ) (t : Table) (e : decodedOf 256 s
   unfolding read
   sound =
       subst (λ (xs : List Row). Every (Sound s) xs) (sym rows-are)
-      (perm-every (Sound s) (Permᴰ·symm (sort-perm rowKey (rowsIn (reading 256 s)))) (sound-read 256 s b))
+      (any-every (Sound s) (rowsIn (reading 256 s)) _ (sort-any rowKey (rowsIn (reading 256 s))) (sound-read 256 s b))
 
   rises : Ascending rowKey (rowsOf t)
   unfolding read
@@ -107,20 +105,20 @@ module _ (s : List ℕ) (b : Bytes s) (n : ℕ) (t : Table) (e : decodedOf 256 s
   shaped : Shaped t
   shaped =
       record {
-        keyed = every-map (Sound s) (λ r. length (r .key) ≡ 32) (rowsOf t) (λ r h. h .keyed) sound;
-        small = every-map (Sound s) (λ r. r .length < 4294967296) (rowsOf t) (λ r h. h .small) sound;
+        keyed = every-map (Sound s) (λ r. length (r .key) ≡ 32) (λ r h. h .keyed) (rowsOf t) sound;
+        small = every-map (Sound s) (λ r. r .length < 4294967296) (λ r h. h .small) (rowsOf t) sound;
       }
 
   few : t .count ≤ 256
   unfolding read
   few =
       let c : t .count ≡ length (sortBy rowKey (rowsIn (reading 256 s))) = ap (λ (u : Table). u .count) table-is in
-      let l = perm-length (sort-perm rowKey (rowsIn (reading 256 s))) in
+      let l = sort-length below rowKey (rowsIn (reading 256 s)) in
       let m = count-read 256 s in
       omega arith
 
   -- a decoded table is accepted over its input, where there is room
-  pub decode-encode : (out : List ℕ) → length (bytesOf t s) ≤ length out → encodedOf 256 t s out ≡ Written (length (bytesOf t s))
+  pub decode-encode : (out : List ℕ) → length (bytesOf t s) ≤ length out → encodedOf 256 t s out ≡ done (length (bytesOf t s))
   unfolding encodedOf
   decode-encode out h =
       rw (
@@ -136,5 +134,5 @@ module _ (s : List ℕ) (b : Bytes s) (n : ℕ) (t : Table) (e : decodedOf 256 s
       → GivesBack (entries s (rowsOf t)) (length (bytesOf t s)) (bytesOf t s ++ rest) (decodedOf 256 (bytesOf t s ++ rest))
   decode-encode-decode out rest h =
       subst (λ (xs : List Row). GivesBack (entries s xs) (length (bytesOf t s)) (bytesOf t s ++ rest) (decodedOf 256 (bytesOf t s ++ rest)))
-      (sort-unique rowKey (rowsOf t) (rowsOf t) rises (Permᴰ·refl (rowsOf t)))
+      (sort-unique rowKey (rowsOf t) (rowsOf t) rises (any-refl (rowsOf t)))
       (encode-decode t s out rest (length (bytesOf t s)) shaped (decode-encode out h))

@@ -1,31 +1,28 @@
 -- Reading the bytes of a delta: each group gives its rows back, with the values where the bytes have them, whatever follows.
 -- Assumes nothing.
-use Prim.Native.Nat.{ℕ, zero, suc, _+_, _-_, _<_, _≤_}
+use Prim.Native.Nat.{ℕ, _+_, _-_, _<_, _≤_}
 use mathlib.Core.Bool.{Bool, true, false, _||_}
-use mathlib.Core.List.{List, [], _∷_, _++_, append-assoc, map}
-use mathlib.Core.Path.{_≡_, refl, ap, ap₂, sym, subst, _∙_}
-use lib.ListN.{length, take, drop, length-append, length-take, length-drop, take-append-drop}
+use mathlib.Core.List.{List, [], _∷_, _++_, append-assoc}
+use mathlib.Core.Path.{_≡_, refl, ap, ap₂, sym, _∙_}
+use lib.ListN.{length, take, drop, length-append, length-drop, take-append-drop}
 use lib.Seq.{length-take-le, take-at, drop-at, drop-drop}
 use native.Mathlib.Nat.{zero-add, add-zero}
 use native.Mathlib.Numerals.{one-add}
 use native.Mathlib.Omega.{arith}
 use borrow.Author.Tests.{le-leb, ltb-false}
 use Rattle.lists.specs.Choice.{pick}
+use Rattle.lists.proofs.Bools.{or-false}
 use Rattle.lists.specs.Splice.{part}
 use Rattle.little_endian.specs.LittleEndian.{leAt, leBytes, u32At}
 use Rattle.little_endian.specs.declared.U32At.the-variants.{Value}
 use Rattle.little_endian.proofs.LittleEndian.{le-read, le-bytes-length, u32-value}
-use Rattle.keys.specs.Sort.{any, Least, Ascending}
-use Rattle.delta.specs.Table.{rowKey, erased, reinstated}
-use Rattle.delta.specs.Reading.{Got, Got.got, Reading, Reading.row, eraseAt, reinstateAt, group, prepend}
+use Rattle.lists.specs.Each.{any}
+use Rattle.delta.specs.Table.{erased, reinstated}
+use Rattle.delta.specs.Reading.{Got.got, Reading, Reading.row, eraseAt, reinstateAt, group, prepend}
 use Rattle.delta.specs.declared.Row.{Row}
 use Rattle.delta_encode.specs.Bytes.{valueOf, eraseBytes, reinstateBytes, concat, sum, erases, reinstates, outside, Keyed}
-use Rattle.delta_encode.specs.Entries.{Entry, entry, entries, Small}
+use Rattle.delta_encode.specs.Entries.{entries, Small}
 use Rattle.delta_encode.proofs.Writes.{present-length}
-
-or-false : (a b : Bool) → a || b ≡ false → (a ≡ false) × (b ≡ false)
-or-false true b e = absurd (let z : _≡_ {A = ℕ} 0 1 = cc in omega arith)
-or-false false b e = (refl, e)
 
 -- the rows that the erase group of ys gives
 abbrev pub erasedRows : List Row → List Row

@@ -1,84 +1,80 @@
 -- Decoding an accepted encoding, with anything behind it, gives the same keys, marks and value bytes in ascending order, and consumes
 -- just the encoding. Assumes nothing.
-use Prim.Native.Nat.{ℕ, zero, suc, _+_, _-_, _<_, _≤_}
+use Prim.Native.Nat.{ℕ, suc, _+_, _-_, _<_, _≤_}
 use mathlib.Core.Bool.{Bool, true, false}
-use mathlib.Core.List.{List, [], _∷_, _++_, append-assoc, map, List·Permᴰ, List·Permᴰ·nil, List·Permᴰ·cons, List·Permᴰ·trans, Permᴰ·middle, Permᴰ·symm}
-use mathlib.Core.Path.{_≡_, refl, ap, ap₂, sym, subst, _∙_}
-use lib.ListN.{length, take, drop, length-append, length-take, take-append-drop}
+use mathlib.Core.List.{List, [], _∷_, _++_, append-assoc}
+use mathlib.Core.Path.{_≡_, refl, ap, sym, subst, _∙_}
+use lib.ListN.{length, take, drop, length-take}
 use native.Mathlib.Nat.{zero-add}
 use native.Mathlib.Omega.{arith}
 use borrow.Author.Tests.{le-ltb, ltb-false}
 use lib.Dec.{ltb}
 use Rattle.lists.specs.Choice.{pick}
-use Rattle.lists.specs.Splice.{splice}
+use Rattle.lists.specs.Outcome.{Outcome, refused, done}
+use Rattle.lists.proofs.Outcome.{refused-is-not-done, done-injective}
 use Rattle.lists.proofs.Splice.{splice-fits}
-use Rattle.lists.proofs.Cases.{by-test}
-use Rattle.little_endian.specs.LittleEndian.{leBytes, u32At}
-use Rattle.little_endian.specs.declared.U32At.the-variants.{Value}
+use Rattle.little_endian.specs.LittleEndian.{leBytes}
 use Rattle.little_endian.proofs.LittleEndian.{le-bytes-length}
-use Rattle.keys.specs.Order.{compareKeys}
-use Rattle.keys.specs.Sort.{sortBy, clash, any, Every, Least, Ascending}
-use Rattle.keys.specs.declared.Side.the-variants.{Below}
-use Rattle.keys.proofs.Sorting.{perm-any, perm-every, perm-length, perm-clash, sort-perm, sort-unique, ascending-sort, ascending-clash}
+use Rattle.keys.specs.Order.{below}
+use Rattle.lists.specs.Each.{any, Every}
+use Rattle.keys.specs.Sorting.{sortBy, clash, Ascending}
+use Rattle.lists.specs.AnyOrder.{AnyOrder}
+use Rattle.lists.proofs.AnyOrder.{any-more, any-any, any-every}
+use Rattle.lists.proofs.Sort.{sort-length}
+use Rattle.keys.proofs.Sorting.{clash-any, sort-any, sort-unique, ascending-sort, ascending-clash}
 use Rattle.delta.specs.Table.{rowKey, erased, reinstated, rowsOf, tableOf}
-use Rattle.delta.specs.Reading.{Reading, Reading.ends, eraseAt, reinstateAt, counted, group, reading, answered, refusedOf, decodedOf, prepend}
+use Rattle.delta.specs.Reading.{Reading.ends, eraseAt, reinstateAt, group, reading, DecodeOutcome, decodedOf, prepend}
 use Rattle.delta.specs.Reading as Delta
 use Rattle.delta.proofs.Groups.{prepend-append}
 use Rattle.delta.proofs.Plain.{rows-table}
 use Rattle.delta.proofs.Whole.{decoded-read}
 use Rattle.delta.specs.declared.Row.{Row}
 use Rattle.delta.specs.declared.Table.{Table}
-use Rattle.delta.specs.declared.Decoded.{Decoded}
-use Rattle.delta.specs.declared.Decoding.{Decoding}
-use Rattle.delta.specs.declared.Decoding.the-variants.{Consumed, Duplicate}
-use Rattle.delta_encode.specs.Bytes.{eraseBytes, reinstateBytes, concat, sum, erases, reinstates, outside, deltaBytes, bytesOf, encodedOf, written, afterOf, Keyed}
-use Rattle.delta_encode.specs.Entries.{Entry, entry, entries, Small, Shaped}
-use Rattle.delta_encode.specs.declared.Encoded.{Encoded}
-use Rattle.delta_encode.specs.declared.Encoded.the-variants.{Written, Outside, Short}
-use Rattle.delta_encode.specs.declared.Encoded.the-variants as Encoding
+use Rattle.delta_encode.specs.Bytes.{eraseBytes, reinstateBytes, concat, sum, erases, reinstates, outside, deltaBytes, bytesOf}
+use Rattle.delta_encode.specs.Bytes.{encodedOf, written, afterOf, Keyed}
+use Rattle.delta_encode.specs.Entries.{Entry, entries, Small, Shaped}
 use Rattle.delta_encode.proofs.Whole.{bytes-length}
-use Rattle.delta_encode.proofs.Parse.{cut, count-at, erasedRows, reinstatedRows, movedRows, parse-erases, parse-reinstates, moved-entries}
+use Rattle.delta_encode.proofs.Parse.{cut, count-at, erasedRows, reinstatedRows, movedRows, parse-erases, parse-reinstates}
+use Rattle.delta_encode.proofs.Parse.{moved-entries}
 
 -- what both groups give is, up to the order, the rows with their values moved
-moved-perm : (p : ℕ) (ys : List Row) → List·Permᴰ (erasedRows ys ++ reinstatedRows p ys) (movedRows p ys)
-moved-perm p [] = List·Permᴰ·nil
-moved-perm p (r ∷ rs) = go (r .present) (moved-perm (p + (36 + r .length)) rs) (moved-perm p rs)
+moved-any : (p : ℕ) (ys : List Row) → AnyOrder (erasedRows ys ++ reinstatedRows p ys) (movedRows p ys)
+moved-any p [] = refl
+moved-any p (r ∷ rs) = go (r .present) (moved-any (p + (36 + r .length)) rs) (moved-any p rs)
   where
-    go : (b : Bool) → List·Permᴰ (erasedRows rs ++ reinstatedRows (p + (36 + r .length)) rs) (movedRows (p + (36 + r .length)) rs)
-        → List·Permᴰ (erasedRows rs ++ reinstatedRows p rs) (movedRows p rs)
-        → List·Permᴰ
+    go : (b : Bool) → AnyOrder (erasedRows rs ++ reinstatedRows (p + (36 + r .length)) rs) (movedRows (p + (36 + r .length)) rs)
+        → AnyOrder (erasedRows rs ++ reinstatedRows p rs) (movedRows p rs)
+        → AnyOrder
         (pick b (erasedRows rs) (erased (r .key) ∷ erasedRows rs)
         ++ pick b (reinstated (r .key) (p + 36) (r .length) ∷ reinstatedRows (p + (36 + r .length)) rs) (reinstatedRows p rs))
         (pick b (reinstated (r .key) (p + 36) (r .length) ∷ movedRows (p + (36 + r .length)) rs) (erased (r .key) ∷ movedRows p rs))
     go true a b =
-        List·Permᴰ·trans (Permᴰ·middle (reinstated (r .key) (p + 36) (r .length)) (erasedRows rs)
-        (reinstatedRows (p + (36 + r .length)) rs))
-        (List·Permᴰ·cons refl a)
-    go false a b = List·Permᴰ·cons refl b
+        any-more (reinstated (r .key) (p + 36) (r .length)) (erasedRows rs) (reinstatedRows (p + (36 + r .length)) rs) _ a
+    go false a b = any-more (erased (r .key)) [] (erasedRows rs ++ reinstatedRows p rs) _ b
 
 -- moving the values leaves the keys
-moved-least : (x y : Row) (p : ℕ) (ys : List Row) → y .key ≡ x .key → Least rowKey x ys → Least rowKey y (movedRows p ys)
-moved-least x y p [] e l = tt
-moved-least x y p (r ∷ rs) e l = go (r .present) (moved-least x y (p + (36 + r .length)) rs e (l .1)) (moved-least x y p rs e (l .1))
+moved-every : (P : List ℕ → Type 0) (p : ℕ) (ys : List Row) → Every (λ r. P (r .key)) ys → Every (λ r. P (r .key)) (movedRows p ys)
+moved-every P p [] l = tt
+moved-every P p (r ∷ rs) l = go (r .present) (moved-every P (p + (36 + r .length)) rs (l .1)) (moved-every P p rs (l .1))
   where
-    q : compareKeys (y .key) (r .key) ≡ Below
-    q = rw e (l .0)
-
-    go : (b : Bool) → Least rowKey y (movedRows (p + (36 + r .length)) rs) → Least rowKey y (movedRows p rs)
-        → Least rowKey y (pick b (reinstated (r .key) (p + 36) (r .length) ∷ movedRows (p + (36 + r .length)) rs)
+    go : (b : Bool) → Every (λ r. P (r .key)) (movedRows (p + (36 + r .length)) rs) → Every (λ r. P (r .key)) (movedRows p rs)
+        → Every (λ r. P (r .key)) (pick b (reinstated (r .key) (p + 36) (r .length) ∷ movedRows (p + (36 + r .length)) rs)
         (erased (r .key) ∷ movedRows p rs))
-    go true u w = (q, u)
-    go false u w = (q, w)
+    go true u w = (l .0, u)
+    go false u w = (l .0, w)
 
 moved-ascending : (p : ℕ) (ys : List Row) → Ascending rowKey ys → Ascending rowKey (movedRows p ys)
 moved-ascending p [] a = tt
 moved-ascending p (r ∷ rs) a = go (r .present) (moved-ascending (p + (36 + r .length)) rs (a .1)) (moved-ascending p rs (a .1))
   where
+    least : (q : ℕ) → Every (λ y. below (r .key) (y .key) ≡ true) (movedRows q rs)
+    least q = moved-every (λ k. below (r .key) k ≡ true) q rs (a .0)
+
     go : (b : Bool) → Ascending rowKey (movedRows (p + (36 + r .length)) rs) → Ascending rowKey (movedRows p rs)
         → Ascending rowKey (pick b (reinstated (r .key) (p + 36) (r .length) ∷ movedRows (p + (36 + r .length)) rs)
         (erased (r .key) ∷ movedRows p rs))
-    go true u w = (moved-least r (reinstated (r .key) (p + 36) (r .length)) (p + (36 + r .length)) rs refl (a .0), u)
-    go false u w = (moved-least r (erased (r .key)) p rs refl (a .0), w)
+    go true u w = (least (p + (36 + r .length)), u)
+    go false u w = (least p, w)
 
 -- each row is in one of the groups
 counts : (ys : List Row) → sum erases ys + sum reinstates ys ≡ length ys
@@ -127,7 +123,7 @@ module _ (v rest : List ℕ) (ys : List Row) (a : Ascending rowKey ys) (k : Keye
   cm = cut s (leBytes 4 (sum reinstates ys)) (K ++ rest) (4 + length E) 4 (ce .2) (le-bytes-length 4 (sum reinstates ys)) (ce .0)
 
   second-start : Delta.reinstates 256 s (sum erases ys) (4 + length E)
-      ≡ group (reinstateAt s) (sum reinstates ys) (start ys) (λ q. ends (Consumed q))
+      ≡ group (reinstateAt s) (sum reinstates ys) (start ys) (λ q. ends (done q))
   unfolding Delta.reinstates
   second-start =
       rw (
@@ -137,8 +133,8 @@ module _ (v rest : List ℕ) (ys : List Row) (a : Ascending rowKey ys) (k : Keye
       )
 
   second-group : Delta.reinstates 256 s (sum erases ys) (4 + length E)
-      ≡ prepend (reinstatedRows (start ys) ys) (ends (Consumed (start ys + length K)))
-  second-group = second-start ∙ parse-reinstates s v rest ys (start ys) (λ q. ends (Consumed q)) k z i (cm .2) (cm .0)
+      ≡ prepend (reinstatedRows (start ys) ys) (ends (done (start ys + length K)))
+  second-group = second-start ∙ parse-reinstates s v rest ys (start ys) (λ q. ends (done q)) k z i (cm .2) (cm .0)
 
   first-start : reading 256 s ≡ group (eraseAt s) (sum erases ys) 4 (λ p. Delta.reinstates 256 s (sum erases ys) p)
   unfolding reading
@@ -149,12 +145,12 @@ module _ (v rest : List ℕ) (ys : List Row) (a : Ascending rowKey ys) (k : Keye
             (sum erases ys) (few .2),
       )
 
-  read : reading 256 s ≡ prepend (erasedRows ys ++ reinstatedRows (start ys) ys) (ends (Consumed (start ys + length K)))
+  read : reading 256 s ≡ prepend (erasedRows ys ++ reinstatedRows (start ys) ys) (ends (done (start ys + length K)))
   read =
       first-start
       ∙ parse-erases s (leBytes 4 (sum reinstates ys) ++ (K ++ rest)) ys 4 (λ p. Delta.reinstates 256 s (sum erases ys) p) k (c0 .2) (c0 .0)
       ∙ ap (prepend (erasedRows ys)) second-group ∙ sym (prepend-append (erasedRows ys) (reinstatedRows (start ys) ys)
-      (ends (Consumed (start ys + length K))))
+      (ends (done (start ys + length K))))
 
   long : start ys + length K ≡ length (deltaBytes v ys)
   long =
@@ -162,15 +158,16 @@ module _ (v rest : List ℕ) (ys : List Row) (a : Ascending rowKey ys) (k : Keye
       omega arith
 
   -- decoding the bytes, whatever follows them, takes them all and gives the rows in the same order, with the values where they now are
-  pub decode-bytes : decodedOf 256 s ≡ record { answer = Consumed (length (deltaBytes v ys)); table = tableOf (movedRows (start ys) ys) }
+  pub decode-bytes : decodedOf 256 s ≡ record { answer = done (length (deltaBytes v ys)); table = tableOf (movedRows (start ys) ys) }
   decode-bytes =
-      let m = moved-perm (start ys) ys in
+      let m = moved-any (start ys) ys in
       let up = moved-ascending (start ys) ys a in
-      let once : clash rowKey (erasedRows ys ++ reinstatedRows (start ys) ys) ≡ false = perm-clash rowKey m
+      let once : clash rowKey (erasedRows ys ++ reinstatedRows (start ys) ys) ≡ false =
+      clash-any rowKey (erasedRows ys ++ reinstatedRows (start ys) ys) (movedRows (start ys) ys) m
       ∙ ascending-clash rowKey (movedRows (start ys) ys) up in
-      decoded-read 256 s (erasedRows ys ++ reinstatedRows (start ys) ys) (Consumed (start ys + length K)) read
+      decoded-read 256 s (erasedRows ys ++ reinstatedRows (start ys) ys) (done (start ys + length K)) read
       ∙ rw once (λ j. record {
-        answer = Consumed (long j);
+        answer = done (long j);
         table = tableOf
             (sort-unique rowKey (erasedRows ys ++ reinstatedRows (start ys) ys) (movedRows (start ys) ys) up m j);
       })
@@ -184,8 +181,8 @@ module _ (v rest : List ℕ) (ys : List Row) (a : Ascending rowKey ys) (k : Keye
   moved-rise = moved-ascending (start ys) ys a
 
 -- what decoding some bytes must give: all n bytes consumed, and rows that ascend and say what is said
-pub record GivesBack (said : List Entry) (n : ℕ) (bytes : List ℕ) (d : Decoded) : Type 0 where
-  pub consumed : d .answer ≡ Consumed n
+pub record GivesBack (said : List Entry) (n : ℕ) (bytes : List ℕ) (d : DecodeOutcome) : Type 0 where
+  pub consumed : d .answer ≡ done n
   pub says : entries bytes (rowsOf (d .table)) ≡ said
   pub rises : Ascending rowKey (rowsOf (d .table))
 
@@ -194,7 +191,7 @@ pub bytes-decode : (v rest : List ℕ) (ys : List Row) → Ascending rowKey ys �
     → length ys ≤ 256
     → GivesBack (entries v ys) (length (deltaBytes v ys)) (deltaBytes v ys ++ rest) (decodedOf 256 (deltaBytes v ys ++ rest))
 bytes-decode v rest ys a k z i f =
-    subst (λ (d : Decoded). GivesBack (entries v ys) (length (deltaBytes v ys)) (deltaBytes v ys ++ rest) d)
+    subst (λ (d : DecodeOutcome). GivesBack (entries v ys) (length (deltaBytes v ys)) (deltaBytes v ys ++ rest) d)
     (sym (decode-bytes v rest ys a k z i f))
     (record {
       consumed = refl;
@@ -211,7 +208,7 @@ pub record Accepted (t : Table) (v out : List ℕ) (n : ℕ) : Type 0 where
   pub size : n ≡ length (bytesOf t v)
 
 -- every accepted table has it
-pub accepted-by : (t : Table) (v out : List ℕ) (n : ℕ) → encodedOf 256 t v out ≡ Written n → Accepted t v out n
+pub accepted-by : (t : Table) (v out : List ℕ) (n : ℕ) → encodedOf 256 t v out ≡ done n → Accepted t v out n
 unfolding encodedOf
 accepted-by t v out n e = go (ltb 256 (t .count)) refl (any (outside (length v)) (rowsOf t)) refl (clash rowKey (rowsOf t)) refl
     (ltb (length out) (length (bytesOf t v))) refl e
@@ -219,47 +216,47 @@ accepted-by t v out n e = go (ltb 256 (t .count)) refl (any (outside (length v))
     go : (w : Bool) → ltb 256 (t .count) ≡ w → (x : Bool) → any (outside (length v)) (rowsOf t) ≡ x → (y : Bool)
         → clash rowKey (rowsOf t) ≡ y
         → (z : Bool) → ltb (length out) (length (bytesOf t v)) ≡ z
-        → pick w Outside (pick x Outside (pick y Encoding.Duplicate (pick z Short (Written (length (bytesOf t v)))))) ≡ Written n
+        → pick w (refused 43) (pick x (refused 43) (pick y (refused 42) (pick z (refused 44) (done (length (bytesOf t v)))))) ≡ done n
         → Accepted t v out n
-    go true p x q y r z s e = absurd (let o : _≡_ {A = ℕ} 0 1 = cc in omega arith)
-    go false p true q y r z s e = absurd (let o : _≡_ {A = ℕ} 0 1 = cc in omega arith)
-    go false p false q true r z s e = absurd (let o : _≡_ {A = ℕ} 0 1 = cc in omega arith)
-    go false p false q false r true s e = absurd (let o : _≡_ {A = ℕ} 0 1 = cc in omega arith)
+    go true p x q y r z s e = refused-is-not-done e
+    go false p true q y r z s e = refused-is-not-done e
+    go false p false q true r z s e = refused-is-not-done e
+    go false p false q false r true s e = refused-is-not-done e
     go false p false q false r false s e =
-        let m : length (bytesOf t v) ≡ n = cc in
         record {
           few = ltb-false 256 (t .count) p;
           inside = q;
           once = r;
           room = ltb-false (length out)
               (length (bytesOf t v)) s;
-          size = sym m;
+          size = sym (done-injective e);
         }
 
 -- THE ROUND TRIP: an accepted encoding, with anything behind it, decodes to the same keys, marks and value bytes, in ascending order, and
 -- just the encoding is consumed
-pub encode-decode : (t : Table) (v out rest : List ℕ) (n : ℕ) → Shaped t → encodedOf 256 t v out ≡ Written n
+pub encode-decode : (t : Table) (v out rest : List ℕ) (n : ℕ) → Shaped t → encodedOf 256 t v out ≡ done n
     → GivesBack (entries v (sortBy rowKey (rowsOf t))) n (bytesOf t v ++ rest) (decodedOf 256 (bytesOf t v ++ rest))
 encode-decode t v out rest n h e =
     let w = accepted-by t v out n e in
-    let back = Permᴰ·symm (sort-perm rowKey (rowsOf t)) in
-    let long = perm-length (sort-perm rowKey (rowsOf t)) in
+    let order = sort-any rowKey (rowsOf t) in
+    let long = sort-length below rowKey (rowsOf t) in
     let most = length-take (t .count) (t .rows) in
     let few = w .few in
     subst (λ (k : ℕ). GivesBack (entries v (sortBy rowKey (rowsOf t))) k (bytesOf t v ++ rest) (decodedOf 256 (bytesOf t v ++ rest)))
     (sym (w .size))
     (bytes-decode v rest (sortBy rowKey (rowsOf t)) (ascending-sort rowKey (rowsOf t) (w .once))
-    (perm-every (λ r. length (r .key) ≡ 32) back (h .keyed)) (perm-every (λ r. r .length < 4294967296) back (h .small))
-    (perm-any (outside (length v)) (sort-perm rowKey (rowsOf t)) ∙ w .inside) (omega arith))
+    (any-every (λ r. length (r .key) ≡ 32) (rowsOf t) _ order (h .keyed))
+    (any-every (λ r. r .length < 4294967296) (rowsOf t) _ order (h .small))
+    (sym (any-any (outside (length v)) (rowsOf t) _ order) ∙ w .inside) (omega arith))
 
 -- the same of the output itself: what encoding left there decodes to what was encoded
-pub encode-decode-output : (t : Table) (v out : List ℕ) (n : ℕ) → Shaped t → encodedOf 256 t v out ≡ Written n
+pub encode-decode-output : (t : Table) (v out : List ℕ) (n : ℕ) → Shaped t → encodedOf 256 t v out ≡ done n
     → GivesBack (entries v (sortBy rowKey (rowsOf t))) n (afterOf 256 t v out) (decodedOf 256 (afterOf 256 t v out))
 encode-decode-output t v out n h e =
     let w = accepted-by t v out n e in
     let room = w .room in
     let after : afterOf 256 t v out ≡ bytesOf t v ++ drop (length (bytesOf t v)) out =
-    ap (λ (x : Encoded). written x (bytesOf t v) out) e ∙ splice-fits 0 (bytesOf t v) out (omega arith)
+    ap (λ (x : Outcome ℕ). written x (bytesOf t v) out) e ∙ splice-fits 0 (bytesOf t v) out (omega arith)
     ∙ ap (λ (k : ℕ). bytesOf t v ++ drop k out) (zero-add (length (bytesOf t v))) in
     subst (λ (o : List ℕ). GivesBack (entries v (sortBy rowKey (rowsOf t))) n o (decodedOf 256 o)) (sym after)
     (encode-decode t v out (drop (length (bytesOf t v)) out) n h e)

@@ -1,27 +1,32 @@
 -- What `encode` puts together: its answers by the tests, the length of the bytes, and the four parts written one behind the other.
 -- Assumes nothing.
-use Prim.Native.Nat.{ℕ, zero, suc, _+_, _-_, _<_, _≤_}
+use Prim.Native.Nat.{ℕ, _+_, _-_, _<_, _≤_}
 use mathlib.Core.Bool.{Bool, true, false, _||_}
 use mathlib.Core.List.{List, [], _∷_, _++_}
-use mathlib.Core.Path.{_≡_, refl, ap, sym, subst, _∙_}
+use mathlib.Core.Path.{_≡_, refl, ap, sym, _∙_}
 use lib.ListN.{length, length-append, length-take}
-use native.Mathlib.Nat.{zero-add}
 use native.Mathlib.Omega.{arith}
 use borrow.Author.Tests.{lt-ltb, le-ltb, ltb-false}
-use Rattle.lists.specs.Choice.{pick}
+use Rattle.lists.proofs.Bools.{zero-is-not-one}
+use Rattle.lists.specs.Outcome.{Outcome, done}
 use Rattle.lists.specs.Splice.{splice}
 use Rattle.lists.proofs.Splice.{splice-join}
 use Rattle.little_endian.specs.LittleEndian.{leBytes}
 use Rattle.little_endian.proofs.LittleEndian.{le-bytes-length}
-use Rattle.keys.specs.Sort.{sortBy, clash, any}
-use Rattle.keys.proofs.Sorting.{perm-any, perm-length, sort-perm}
-use Rattle.delta.specs.Table.{rowKey, rowsOf, tableOf, arrangedOf}
+use Rattle.lists.specs.Each.{any}
+use Rattle.keys.specs.Sorting.{sortBy, clash}
+use Rattle.lists.proofs.AnyOrder.{any-any}
+use Rattle.lists.proofs.Sort.{sort-length}
+use Rattle.keys.specs.Order.{below}
+use Rattle.keys.proofs.Sorting.{sort-any}
+use Rattle.delta.specs.Table.{rowKey, rowsOf, arrangedOf}
 use Rattle.delta.proofs.Plain.{rows-table}
-use Rattle.delta.proofs.Arranging.{arranged-clash, arranged-table}
+use Rattle.delta.proofs.Arranging.{arranged-table}
 use Rattle.delta.specs.declared.Row.{Row}
 use Rattle.delta.specs.declared.Table.{Table}
 use Rattle.delta.specs.declared.Arranged.{Arranged}
-use Rattle.delta_encode.specs.Bytes.{valueOf, eraseBytes, reinstateBytes, concat, sum, erases, reinstates, sizeOf, deltaBytes, outside, bytesOf, encodedOf, written, afterOf, Keyed, Sized}
+use Rattle.delta_encode.specs.Bytes.{valueOf, eraseBytes, reinstateBytes, concat, sum, erases, reinstates, sizeOf, deltaBytes}
+use Rattle.delta_encode.specs.Bytes.{outside, bytesOf, encodeOutcome, encodedOf, written, afterOf, Keyed, Sized}
 use Rattle.delta_encode.specs.declared.Encoded.{Encoded}
 use Rattle.delta_encode.specs.declared.Encoded.the-variants.{Written, Outside, Duplicate, Short}
 use Rattle.delta_encode.specs.declared.Sizes.{Sizes}
@@ -38,7 +43,7 @@ groups-length v (r ∷ rs) k a = go (r .present) refl (outside (length v) r) ref
         → (any (outside (length v)) rs ≡ false → length (concat eraseBytes rs) + length (concat (reinstateBytes v) rs) ≡ sum sizeOf rs)
         → length (eraseBytes r ++ concat eraseBytes rs) + length (reinstateBytes v r ++ concat (reinstateBytes v) rs)
         ≡ sizeOf r + sum sizeOf rs
-    go b p true q t ih = absurd (let z : _≡_ {A = ℕ} 0 1 = cc in omega arith)
+    go b p true q t ih = zero-is-not-one (cc)
     go true p false q t ih =
         let h = present-length v r (k .0) (ltb-false (length v) (r .offset + r .length) (rw p at q)) in
         let n = ih t in
@@ -61,12 +66,12 @@ bytes-length v ys =
 
 -- the answer and the output, with at most `most` rows
 abbrev pub Ends : ℕ → Table → List ℕ → List ℕ → Encoded → List ℕ → Type 0
-Ends most t v o r o' = (r ≡ encodedOf most t v o) × (o' ≡ afterOf most t v o)
+Ends most t v o r o' = (encodeOutcome r ≡ encodedOf most t v o) × (o' ≡ afterOf most t v o)
 
 module _ (most : ℕ) (t : Table) (v o : List ℕ) where
   -- a refusal leaves the output
-  refusal : (e : Encoded) → encodedOf most t v o ≡ e → written e (bytesOf t v) o ≡ o → Ends most t v o e o
-  refusal e q w = (sym q, sym (ap (λ (x : Encoded). written x (bytesOf t v) o) q ∙ w))
+  refusal : (e : Encoded) → encodedOf most t v o ≡ encodeOutcome e → written (encodeOutcome e) (bytesOf t v) o ≡ o → Ends most t v o e o
+  refusal e q w = (sym q, sym (ap (λ (x : Outcome ℕ). written x (bytesOf t v) o) q ∙ w))
 
   -- too many rows
   pub ends-many : most < t .count → Ends most t v o Outside o
@@ -88,7 +93,7 @@ module _ (most : ℕ) (t : Table) (v o : List ℕ) where
         ends-short l = refusal Short (unfold encodedOf in rw (le-ltb most (t .count) h, e, d, lt-ltb (length o) (length (bytesOf t v)) l))
             refl
 
-        accepted : length (bytesOf t v) ≤ length o → encodedOf most t v o ≡ Written (length (bytesOf t v))
+        accepted : length (bytesOf t v) ≤ length o → encodedOf most t v o ≡ done (length (bytesOf t v))
         unfolding encodedOf
         accepted l = rw (le-ltb most (t .count) h, e, d, le-ltb (length o) (length (bytesOf t v)) l)
 
@@ -97,7 +102,7 @@ module _ (most : ℕ) (t : Table) (v o : List ℕ) where
             → o' ≡ splice 0 (bytesOf t v) o
             → Ends most t v o (Written n) o'
         ends-written l n o' p q =
-            (ap Written p ∙ sym (accepted l), q ∙ sym (ap (λ (x : Encoded). written x (bytesOf t v) o) (accepted l)))
+            (ap done p ∙ sym (accepted l), q ∙ sym (ap (λ (x : Outcome ℕ). written x (bytesOf t v) o) (accepted l)))
 
 -- four pieces in a row
 splice-four : (o : List ℕ) (a b c d o1 o2 o3 o4 : List ℕ) → length a ≡ 4 → length c ≡ 4 → o1 ≡ splice 0 a o → o2 ≡ splice 4 b o1
@@ -128,7 +133,7 @@ module _ (t : Table) (a : Arranged) (h : t .count ≤ 256) (e : a ≡ arrangedOf
   pub arranged-few : a .table .count ≤ 256
   arranged-few =
       let c : a .table .count ≡ length (sortBy rowKey (rowsOf t)) = ap (λ (u : Table). u .count) (arranged-table (rowsOf t) a e d) in
-      let l = perm-length (sort-perm rowKey (rowsOf t)) in
+      let l = sort-length below rowKey (rowsOf t) in
       let n = length-take (t .count) (t .rows) in
       omega arith
 
@@ -138,7 +143,7 @@ module _ (t : Table) (a : Arranged) (h : t .count ≤ 256) (e : a ≡ arrangedOf
       let q : rowsOf (a .table) ≡ sortBy rowKey (rowsOf t) = ap rowsOf (arranged-table (rowsOf t) a e d)
       ∙ rows-table (sortBy rowKey (rowsOf t)) in
       let n : any (outside (length v)) (rowsOf (a .table)) ≡ false = ap (any (outside (length v))) q
-      ∙ perm-any (outside (length v)) (sort-perm rowKey (rowsOf t)) ∙ w in
+      ∙ sym (any-any (outside (length v)) (rowsOf t) (sortBy rowKey (rowsOf t)) (sort-any rowKey (rowsOf t))) ∙ w in
       let s : bytesOf t v ≡ deltaBytes v (rowsOf (a .table)) = ap (deltaBytes v) (sym q) in
       let g = groups-length v (rowsOf (a .table)) (z .keyed) n in
       let b = bytes-length v (rowsOf (a .table)) in

@@ -1,18 +1,18 @@
 -- A loop that writes what each row gives, one behind the other; and what it takes to know that all of it fits.
 -- Assumes nothing.
-use Prim.Native.Nat.{ℕ, zero, suc, _+_, _-_, _<_, _≤_}
+use Prim.Native.Nat.{ℕ, _+_, _-_, _<_, _≤_}
 use mathlib.Core.Bool.{Bool, true, false, _||_}
 use borrow.Author.Tests.{ltb-false}
-use Rattle.keys.specs.Sort.{any}
+use Rattle.lists.specs.Each.{any}
+use Rattle.lists.proofs.Bools.{zero-is-not-one}
 use mathlib.Core.List.{List, [], _∷_, _++_}
-use mathlib.Core.Path.{_≡_, refl, ap, sym, subst, _∙_}
+use mathlib.Core.Path.{_≡_, refl, ap, sym, _∙_}
 use lib.ListN.{length, getD, take, drop, length-append, length-drop, drop-of-length-le}
 use lib.Seq.{length-take-le}
 use native.Mathlib.Omega.{arith}
-use Rattle.keys.proofs.Place.{front}
+use Rattle.lists.proofs.Arrays.{front}
 use Rattle.delta.specs.declared.Row.{Row}
-use Rattle.delta_encode.specs.Bytes.{eraseBytes, reinstateBytes, valueOf, outside, concat, sum, erases, reinstates, sizeOf, Keyed, Sized}
-use Rattle.lists.specs.Choice.{pick}
+use Rattle.delta_encode.specs.Bytes.{eraseBytes, reinstateBytes, valueOf, outside, concat, sum, erases, reinstates, sizeOf, Sized}
 use Rattle.lists.specs.Splice.{splice}
 use Rattle.lists.proofs.Splice.{splice-length, splice-none, splice-join}
 use Rattle.little_endian.specs.LittleEndian.{leBytes}
@@ -108,7 +108,7 @@ module _ (rows : List Row) (n i : ℕ) (l : n ≤ length rows) where
       where
         go : (b t : Bool) → outside (length v) (getD rows i d) ≡ b → b || t ≡ false
             → (t ≡ false) × (getD rows i d .present ≡ true → getD rows i d .offset + getD rows i d .length ≤ length v)
-        go true t q r = absurd (let z : _≡_ {A = ℕ} 0 1 = cc in omega arith)
+        go true t q r = zero-is-not-one (cc)
         go false t q r = (r, λ y. ltb-false (length v) (getD rows i d .offset + getD rows i d .length) (rw y at q))
 
   -- the row before i

@@ -7,9 +7,11 @@ use mathlib.Core.Path.{_≡_}
 use lib.ListN.{length}
 use lib.Dec.{ltb}
 use Rattle.lists.specs.Choice.{pick, first, Rule._⇒_}
+use Rattle.lists.specs.Outcome.{Outcome, refused, done, either}
 use Rattle.lists.specs.Splice.{part, splice}
 use Rattle.little_endian.specs.LittleEndian.{leBytes}
-use Rattle.keys.specs.Sort.{sortBy, clash, any, Every}
+use Rattle.lists.specs.Each.{any, Every}
+use Rattle.keys.specs.Sorting.{sortBy, clash}
 use Rattle.delta.specs.Table.{rowKey, rowsOf}
 use Rattle.delta.specs.declared.Row.{Row}
 use Rattle.delta.specs.declared.Table.{Table}
@@ -17,19 +19,20 @@ use Rattle.delta_encode.specs.declared.Encoded.{Encoded}
 use Rattle.delta_encode.specs.declared.Encoded.the-variants.{Written, Outside, Duplicate, Short}
 use Rattle.delta_encode.specs.declared.Sizes.{Sizes}
 
--- document 01's number of an answer, 0 where it is accepted
-abbrev pub encodedNumber : Encoded → ℕ
-encodedNumber (Written n) = 0
-encodedNumber Outside = 43
-encodedNumber Duplicate = 42
-encodedNumber Short = 44
+-- document 01's number, or the length written, of each answer of `encode`
+abbrev pub encodeOutcome : Encoded → Outcome ℕ
+encodeOutcome (Written n) = done n
+encodeOutcome Outside = refused 43
+encodeOutcome Duplicate = refused 42
+encodeOutcome Short = refused 44
 
--- the length that an answer says was written
+-- the refusal number; 0 where it is accepted
+abbrev pub encodedNumber : Encoded → ℕ
+encodedNumber answer = either (λ n. n) (λ n. 0) (encodeOutcome answer)
+
+-- the length written; 0 where it is refused
 abbrev pub encodedLength : Encoded → ℕ
-encodedLength (Written n) = n
-encodedLength Outside = 0
-encodedLength Duplicate = 0
-encodedLength Short = 0
+encodedLength answer = either (λ n. 0) (λ n. n) (encodeOutcome answer)
 
 -- the bytes of a row's value
 abbrev pub valueOf : List ℕ → Row → List ℕ
@@ -78,23 +81,21 @@ outside n r = r .present && ltb n (r .offset + r .length)
 abbrev pub bytesOf : Table → List ℕ → List ℕ
 bytesOf t values = deltaBytes values (sortBy rowKey (rowsOf t))
 
--- what encoding answers, with at most `most` rows
-unfoldable pub encodedOf : ℕ → Table → List ℕ → List ℕ → Encoded
+-- what encoding comes to, with at most `most` rows
+unfoldable pub encodedOf : ℕ → Table → List ℕ → List ℕ → Outcome ℕ
 encodedOf most t values out =
     first
-    ((ltb most (t .count) ⇒ Outside)
-    ∷ (any (outside (length values)) (rowsOf t) ⇒ Outside)
-    ∷ (clash rowKey (rowsOf t) ⇒ Duplicate)
-    ∷ (ltb (length out) (length (bytesOf t values)) ⇒ Short)
+    ((ltb most (t .count) ⇒ refused 43)
+    ∷ (any (outside (length values)) (rowsOf t) ⇒ refused 43)
+    ∷ (clash rowKey (rowsOf t) ⇒ refused 42)
+    ∷ (ltb (length out) (length (bytesOf t values)) ⇒ refused 44)
     ∷ [])
-    (Written (length (bytesOf t values)))
+    (done (length (bytesOf t values)))
 
 -- the bytes at the front of the output where they were written; a refusal changes nothing
-abbrev pub written : Encoded → List ℕ → List ℕ → List ℕ
-written (Written n) bytes out = splice 0 bytes out
-written Outside bytes out = out
-written Duplicate bytes out = out
-written Short bytes out = out
+abbrev pub written : Outcome ℕ → List ℕ → List ℕ → List ℕ
+written (done n) bytes out = splice 0 bytes out
+written (refused n) bytes out = out
 
 -- the output after encoding
 abbrev pub afterOf : ℕ → Table → List ℕ → List ℕ → List ℕ

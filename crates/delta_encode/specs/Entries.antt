@@ -3,10 +3,9 @@
 use Prim.Native.Nat.{ℕ, _<_}
 use mathlib.Core.Bool.{Bool}
 use mathlib.Core.List.{List, [], map}
-use mathlib.Core.Path.{_≡_}
 use lib.ListN.{length}
 use Rattle.lists.specs.Choice.{pick}
-use Rattle.keys.specs.Sort.{Every}
+use Rattle.lists.specs.Each.{Every}
 use Rattle.delta.specs.Table.{rowsOf}
 use Rattle.delta.specs.declared.Row.{Row}
 use Rattle.delta.specs.declared.Table.{Table}

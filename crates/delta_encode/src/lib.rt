@@ -9,9 +9,10 @@ ghost use Prim.Native.Nat.{_+_, _≤_};
 ghost use lib.ListN.{length};
 ghost use Rattle.lists.specs.Splice.{part, splice};
 ghost use Rattle.little_endian.specs.LittleEndian.{leBytes};
-ghost use Rattle.keys.specs.Sort.{any};
+ghost use Rattle.lists.specs.Each.{any};
 ghost use Rattle.delta.specs.Table.{rowsOf};
-ghost use Rattle.delta_encode.specs.Bytes.{encodedNumber, encodedLength, outside, eraseBytes, reinstateBytes, concat, encodedOf, afterOf, Sized};
+ghost use Rattle.delta_encode.specs.Bytes.{encodedNumber, encodedLength, encodeOutcome, outside, eraseBytes, reinstateBytes};
+ghost use Rattle.delta_encode.specs.Bytes.{concat, encodedOf, afterOf, Sized};
 
 // What encoding comes to: the length written, or a refusal.
 pub enum Encoded {
@@ -177,7 +178,7 @@ fn put_reinstates(t: Table, values: &[u8], out: &mut [u8], at: usize) -> usize
 
 // The delta of a table whose values lie in `values`, written at the front of `out`; or the refusal, and `out` stays.
 pub fn encode(t: Table, values: &[u8], out: &mut [u8]) -> Encoded
-    ensures { λ r. ⌜ r ≡ encodedOf 256 t (now (values .entry)) (now (out .entry)) ⌝ }
+    ensures { λ r. ⌜ encodeOutcome r ≡ encodedOf 256 t (now (values .entry)) (now (out .entry)) ⌝ }
     ensures { λ _. ⌜ now (out .exit) ≡ afterOf 256 t (now (values .entry)) (now (out .entry)) ⌝ }
 {
     if 256 < t.count {

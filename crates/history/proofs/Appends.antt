@@ -1,6 +1,6 @@
 -- An append keeps the invariant, with the payload noted under the id that it answers; refused, it answers 3 to 7.
 -- Assumes nothing.
-use mathlib.Core.Bool.{not, true, false, Bool, _&&_}
+use mathlib.Core.Bool.{true, false, Bool, _&&_}
 use mathlib.Core.List.{List, _++_, _∷_, []}
 use mathlib.Core.Path.{ap, _≡_, sym, _∙_, refl, subst}
 use Prim.Native.Nat.{ℕ, _≤_, _+_, _-_, suc, _<_, _^_, _%_, _*_}
@@ -13,39 +13,26 @@ use Rattle.lists.proofs.Splice.{splice-length}
 use Rattle.lists.specs.Choice.{pick}
 use Rattle.record.proofs.Record.{record-length}
 use Rattle.record.specs.Record.{maxPayload, recordRoom, recordBytes}
-use Rattle.lists.proofs.Bools.{clash}
 use Rattle.seglog.proofs.Slots.{snoc-apart, apart-snoc}
 use Rattle.seglog.proofs.View.{ends-with}
-use Rattle.seglog.specs.Log.{View, freshIn, apartOf, headOf, frontOf, fitsOf}
-use Rattle.seglog.specs.declared.Segment.{Segment}
+use Rattle.seglog.specs.Log.{View, freshIn, apartOf, headOf, frontOf}
+use Rattle.segment.specs.declared.Segment.{Segment}
 use Rattle.seglog_append.proofs.Free.{free-most, free-good}
-use Rattle.seglog_append.specs.Append.{
-  Appending,
-  refused,
-  appended,
-  startAfter,
-  grownOf,
-  nextId,
-  opensOf,
-  lowestFree,
-  freshOf,
-  beforeOf,
-  targetOf,
-  withRecord,
-  recordInto,
-  appendOf,
-}
+use Rattle.lists.specs.Outcome.{Outcome, refused, done, either}
+use Rattle.seglog_append.specs.declared.Place.{Place}
+use Rattle.seglog_append.specs.Deciding.{nextId, opensOf, lowestFree, freshOf, beforeOf, targetOf, decideOf}
+use Rattle.seglog_append.specs.Appending.{Left, leftOf, startAfter, grownOf, withRecord, recordInto, appendOf}
+use Rattle.seglog_append.proofs.Deciding.{opens-no}
 use Rattle.history.specs.History.{noted}
-use Rattle.history.specs.Recorded.{recordsFrom}
+use Rattle.walk.specs.Records.{recordsFrom}
 use Rattle.history.proofs.Chain.{Chain, chain-ends, chain-join, chain-keep}
 use Rattle.history.proofs.Invariant.{Holds, Live}
-use Rattle.history.proofs.Shape.{holds-fits}
 use Rattle.history.proofs.Slots.{Stored, Upto, keep-other, keep-grown}
 
 -- what an append's outcome keeps: a refusal is 3 to 7
-abbrev pub AppendKeeps : (ℕ → List ℕ) → List ℕ → Appending → Type 0
+abbrev pub AppendKeeps : (ℕ → List ℕ) → List ℕ → Outcome Left → Type 0
 AppendKeeps f p (refused n) = (3 ≤ n) × (n ≤ 7)
-AppendKeeps f p (appended id a area) = Holds a area (noted f id p)
+AppendKeeps f p (done w) = Holds (w .view) (w .area) (noted f (w .id) p)
 
 -- a place to write to: g, open, after hs
 pub record Spot (a : View) (area : List ℕ) (f : ℕ → List ℕ) (i b : ℕ) (hs : List Segment) (g : Segment) : Type 0 where
@@ -81,15 +68,6 @@ next-small : (gs : List Segment) → nextId gs < 2 ^ 32
 unfolding nextId
 next-small gs =
     pick-either (λ (x : ℕ). x < 2 ^ 32) (eqb (length gs) 0) 1 ((headOf gs .id + 1) % 2 ^ 32) (λ q. omega arith) (λ q. omega arith)
-
--- where no segment is opened there is one
-pub opens-some : (a : View) → opensOf a ≡ false → 0 < length (a .segs)
-unfolding opensOf
-opens-some a q = go (eqb (length (a .segs)) 0) refl q
-  where
-    go : (b : Bool) → eqb (length (a .segs)) 0 ≡ b → pick b true (leb (a .m) (headOf (a .segs) .size)) ≡ false → 0 < length (a .segs)
-    go true e r = absurd (let z : _≡_ {A = ℕ} 0 1 = cc in omega arith)
-    go false e r = omega (arith, eqb-false (length (a .segs)) 0 e)
 
 module _ (a : View) (area : List ℕ) (f : ℕ → List ℕ) (h : Holds a area f) where
   abbrev P : Segment → Type 0
@@ -141,7 +119,7 @@ module _ (a : View) (area : List ℕ) (f : ℕ → List ℕ) (h : Holds a area f
   spot-by : (t : Bool) → opensOf a ≡ t → t && eqb (nextId (a .segs)) 0 ≡ false → t && eqb (lowestFree a) (a .k) ≡ false
       → Spot a area f (h .i) (h .b) (pick t (a .segs) (frontOf (a .segs))) (pick t (freshOf a) (headOf (a .segs)))
   spot-by true o q5 q6 = to-new (eqb-false (nextId (a .segs)) 0 q5) (eqb-false (lowestFree a) (a .k) q6)
-  spot-by false o q5 q6 = to-head (opens-some a o)
+  spot-by false o q5 q6 = to-head (opens-no a o)
 
   module _ (p : List ℕ) (little : length p ≤ maxPayload) (more : a .end ≡ 18446744073709551615 → ⊥) where
     -- a record written to a place keeps the invariant
@@ -182,15 +160,15 @@ module _ (a : View) (area : List ℕ) (f : ℕ → List ℕ) (h : Holds a area f
 
 -- an append keeps the invariant
 pub append-keeps : (a : View) (area : List ℕ) (f : ℕ → List ℕ) (p : List ℕ) → Holds a area f → AppendKeeps f p (appendOf a area p)
-unfolding appendOf
+unfolding appendOf decideOf
 append-keeps a area f p h =
-    pick-either (AppendKeeps f p) (not (fitsOf a area)) (refused 2) _
-    (λ q. clash (sym (ap not (holds-fits a area f h)) ∙ q))
-    (λ q. pick-either (AppendKeeps f p) (ltb maxPayload (length p)) (refused 3) _ (λ q. (omega arith, omega arith))
-    (λ q3. pick-either (AppendKeeps f p) (eqb (a .end) 18446744073709551615) (refused 4) _ (λ q. (omega arith, omega arith))
-    (λ q4. pick-either (AppendKeeps f p) (opensOf a && eqb (nextId (a .segs)) 0) (refused 5) _ (λ q. (omega arith, omega arith))
-    (λ q5. pick-either (AppendKeeps f p) (opensOf a && eqb (lowestFree a) (a .k)) (refused 6) _ (λ q. (omega arith, omega arith))
-    (λ q6. pick-either (AppendKeeps f p) (ltb (a .c - targetOf a .size) (recordRoom (length p))) (refused 7) _
-    (λ q. (omega arith, omega arith))
+    pick-either Keeps (ltb maxPayload (length p)) (refused 3) _ (λ q. (omega arith, omega arith))
+    (λ q3. pick-either Keeps (eqb (a .end) 18446744073709551615) (refused 4) _ (λ q. (omega arith, omega arith))
+    (λ q4. pick-either Keeps (opensOf a && eqb (nextId (a .segs)) 0) (refused 5) _ (λ q. (omega arith, omega arith))
+    (λ q5. pick-either Keeps (opensOf a && eqb (lowestFree a) (a .k)) (refused 6) _ (λ q. (omega arith, omega arith))
+    (λ q6. pick-either Keeps (ltb (a .c - targetOf a .size) (recordRoom (length p))) (refused 7) _ (λ q. (omega arith, omega arith))
     (λ q7. written a area f h p (ltb-false maxPayload (length p) q3) (eqb-false (a .end) 18446744073709551615 q4)
-    (spot-by a area f h (opensOf a) refl q5 q6) (ltb-false (a .c - targetOf a .size) (recordRoom (length p)) q7)))))))
+    (spot-by a area f h (opensOf a) refl q5 q6) (ltb-false (a .c - targetOf a .size) (recordRoom (length p)) q7))))))
+  where
+    Keeps : Outcome Place → Type 0
+    Keeps o = AppendKeeps f p (either refused (λ s. done (leftOf a area p)) o)

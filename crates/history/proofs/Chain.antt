@@ -9,7 +9,7 @@ use lib.ListN.{length}
 use Rattle.seglog.proofs.Slots.{fresh-cons}
 use Rattle.seglog.proofs.View.{ends-with}
 use Rattle.seglog.specs.Log.{freshIn, frontOf, headOf}
-use Rattle.seglog.specs.declared.Segment.{Segment}
+use Rattle.segment.specs.declared.Segment.{Segment}
 
 -- one segment of a chain: its id and its first record id, and what P says of it
 pub record Link (P : Segment → Type 0) (i a : ℕ) (g : Segment) : Type 0 where

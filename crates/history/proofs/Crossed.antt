@@ -2,52 +2,37 @@
 -- The proof of specs/Corollaries.antt's statement. Assumes nothing.
 use mathlib.Core.Bool.{true}
 use mathlib.Core.List.{List}
-use mathlib.Core.Path.{_≡_, _∙_, subst, sym, ap}
+use mathlib.Core.Path.{_≡_, _∙_, refl, subst, sym, ap}
 use Prim.Native.Nat.{ℕ, _<_, _≤_}
 use native.Mathlib.Omega.{arith}
-use borrow.Author.Tests.{ne-eqb, le-ltb, lt-ltb}
-use lib.ListN.{length}
-use Rattle.seglog.specs.Log.{View, fitsOf}
+use Rattle.seglog.specs.Log.{View}
 use Rattle.seglog.specs.declared.Log.{Log}
+use Rattle.lists.specs.Outcome.{Outcome, refused}
+use Rattle.seglog_prune.specs.Drop.{dropOld}
 use Rattle.seglog_prune.specs.Prune.{
-  Pruning,
-  refused,
+  Pruned,
   pruned,
-  pruneOf,
   pruneOldestOf,
   pruneRecentOf,
   oldestLog,
   recentLog,
   pruneAnswer,
   startedAt,
-  dropOld,
 }
+use Rattle.seglog_prune.proofs.Decide.{Inner, prune-passes, prune-refuses-9}
 use Rattle.history.specs.Corollaries.{EndsCrossed, SecondRefused}
 use Rattle.history.specs.Demand.{prunesTo}
 use Rattle.history.specs.History.{run, recent, oldest, step, refusalOf, afterPrune, Held, lastUnder, begun}
 use Rattle.history.proofs.Invariant.{Holds, some-live}
-use Rattle.history.proofs.Prunes.{Inner, prune-inner, oldest-holds}
+use Rattle.history.proofs.Prunes.{oldest-holds}
 use Rattle.history.proofs.Runs.{Any, heldOf, recent-log, oldest-log, Came, runs-keep, on-view}
-use Rattle.history.proofs.Shape.{holds-fits}
-
--- a number below the live start is refused with 9
-below-start : (a : View) (area : List ℕ) (n : ℕ) (rest : Pruning) → fitsOf a area ≡ true → 0 < length (a .segs) → 0 < n → n ≤ a .end
-    → n < a .start → pruneOf a area n rest ≡ refused 9
-unfolding pruneOf
-below-start a area n rest h some above upper low =
-    simp (
-      h,
-      ne-eqb n 0 (λ z. omega arith),
-      ne-eqb (length (a .segs)) 0 (λ z. omega arith),
-      le-ltb (a .end) n upper,
-      lt-ltb n (a .start) low,
-    )
 
 module _ (a : View) (area : List ℕ) (f : ℕ → List ℕ) (h : Holds a area f) (s e : ℕ) (from : a .start ≤ e) (crossed : e < s) (to : s ≤ a .end)
     (above : 0 < e) where
-  inner : Inner a s
+  inner : Inner a true s
   inner =
       record {
+        good = refl;
         some = some-live (a .segs) (a .start) (a .end) (h .j) (omega arith) (h .live);
         above = omega arith;
         upper = to;
@@ -63,14 +48,14 @@ module _ (a : View) (area : List ℕ) (f : ℕ → List ℕ) (h : Holds a area f
 
   first-prune : oldestLog (heldOf a area .log) area s ≡ pruned older area
   unfolding pruneOldestOf
-  first-prune = oldest-log a area f h s ∙ prune-inner a area s _ (holds-fits a area f h) inner
+  first-prune = oldest-log a area f h s ∙ prune-passes a true area s _ inner
 
   second-prune : recentLog (heldOf older area .log) area e ≡ refused 9
   unfolding pruneRecentOf
   second-prune =
+      let some = some-live (older .segs) s (a .end) (older-holds .j) (omega arith) (older-holds .live) in
       recent-log older area f older-holds e
-      ∙ below-start older area e _ (holds-fits older area f older-holds)
-      (some-live (older .segs) s (a .end) (older-holds .j) (omega arith) (older-holds .live)) above (omega arith) crossed
+      ∙ prune-refuses-9 older true area e _ refl above some (omega arith) crossed
 
   -- what is held after the first
   after-first : step (heldOf a area) (oldest s) ≡ heldOf older area
@@ -80,9 +65,9 @@ module _ (a : View) (area : List ℕ) (f : ℕ → List ℕ) (h : Holds a area f
   unfolding run
   second-refused =
       record {
-        first-accepts = ap (λ (r : Pruning). pruneAnswer (heldOf a area .log) r .refusal) first-prune;
+        first-accepts = ap (λ (r : Outcome Pruned). pruneAnswer (heldOf a area .log) r .refusal) first-prune;
         second-refuses = ap (λ (x : Held). refusalOf x (recent e)) after-first
-            ∙ ap (λ (r : Pruning). pruneAnswer (heldOf older area .log) r .refusal) second-prune;
+            ∙ ap (λ (r : Outcome Pruned). pruneAnswer (heldOf older area .log) r .refusal) second-prune;
         as-the-first-left-it = ap (λ (x : Held). step x (recent e)) after-first
             ∙ ap (afterPrune (heldOf older area)) second-prune ∙ sym after-first;
       }

@@ -17,24 +17,23 @@ use Rattle.record.proofs.Record.{record-length, room-ge, record-payload}
 use Rattle.record.specs.Record.{recordBytes, recordRoom}
 use Rattle.seglog.specs.Log.{fittingOf}
 use Rattle.seglog.specs.declared.Log.{Log}
-use Rattle.seglog.specs.declared.Segment.{Segment}
-use Rattle.seglog_prune.specs.Prune.{imageIn}
+use Rattle.segment.specs.declared.Segment.{Segment}
+use Rattle.segment.specs.Segment.{imageIn}
 use Rattle.recovery_walk.specs.Rows.{rowOf}
-use Rattle.recovery_walk.specs.Step.{liveOf}
-use Rattle.payload.specs.Payload.{rowQuestion, payloadOf, outsideOf}
-use Rattle.payload.specs.declared.RowAnswer.{RowAnswer}
-use Rattle.payload.specs.declared.RowAnswer.the-variants.{Good}
-use Rattle.history.specs.Recorded.{recordsFrom}
+use Rattle.walk.specs.Judging.{liveOf}
+use Rattle.payload.specs.Row.{rowQuestion, payloadOf, outsideOf}
+use Rattle.payload.proofs.Row.{payload-good}
+use Rattle.walk.specs.Records.{recordsFrom}
 use Rattle.history.proofs.Chain.{Chain, chain-le}
 use Rattle.history.proofs.Over.{rowsOver}
 use Rattle.history.proofs.Scans.{rowsChain}
 use Rattle.history.proofs.Slots.{Stored}
 
--- a row as a reader meets it: its id, what the row question answers, the payload
+-- a row as a reader meets it: its id, the number of the row question, the payload
 pub data Item : Type 0 where
-  item : ℕ → RowAnswer → List ℕ → Item
+  item : ℕ → ℕ → List ℕ → Item
 
--- each row's id, answer and payload, in order; fewer than four words are no row
+-- each row's id, number and payload, in order; fewer than four words are no row
 unfoldable pub delivered : Log → List ℕ → List ℕ → List Item
 delivered l area [] = []
 delivered l area (id ∷ []) = []
@@ -46,12 +45,12 @@ delivered l area (id ∷ slot ∷ off ∷ len ∷ ws) =
 -- good rows with the ids a, a + 1, .., n of them, and what f has for them
 unfoldable pub items : (ℕ → List ℕ) → ℕ → ℕ → List Item
 items f a zero = []
-items f a (suc n) = item a Good (f a) ∷ items f (suc a) n
+items f a (suc n) = item a 0 (f a) ∷ items f (suc a) n
 
 -- the live ones of n ids from a on
 unfoldable pub liveItems : (ℕ → List ℕ) → (s e a n : ℕ) → List Item
 liveItems f s e a zero = []
-liveItems f s e a (suc n) = pick (liveOf s e a) (item a Good (f a) ∷ []) [] ++ liveItems f s e (suc a) n
+liveItems f s e a (suc n) = pick (liveOf s e a) (item a 0 (f a) ∷ []) [] ++ liveItems f s e (suc a) n
 
 live-join : (f : ℕ → List ℕ) (s e a m n : ℕ) → liveItems f s e a (m + n) ≡ liveItems f s e a m ++ liveItems f s e (a + m) n
 unfolding liveItems
@@ -59,7 +58,7 @@ live-join f s e a zero n = let z : 0 + n ≡ n = omega arith in rw (z, add-zero)
 live-join f s e a (suc m) n =
     let y : suc m + n ≡ suc (m + n) = omega arith in
     let z : suc a + m ≡ a + suc m = omega arith in
-    rw (y, append-assoc, ← z) (ap (λ (l : List Item). pick (liveOf s e a) (item a Good (f a) ∷ []) [] ++ l) (live-join f s e (suc a) m n))
+    rw (y, append-assoc, ← z) (ap (λ (l : List Item). pick (liveOf s e a) (item a 0 (f a) ∷ []) [] ++ l) (live-join f s e (suc a) m n))
 
 live-yes : (s e a : ℕ) → s ≤ a → a ≤ e → liveOf s e a ≡ true
 unfolding liveOf
@@ -85,10 +84,10 @@ live-tail f s e zero a h = let z : min (a + 0) (e + 1) - a ≡ 0 = omega arith i
 live-tail f s e (suc n) a h = go (leb a e) refl (live-tail f s e n (suc a) (omega arith))
   where
     go : (b : Bool) → leb a e ≡ b → liveItems f s e (suc a) n ≡ items f (suc a) (min (suc a + n) (e + 1) - suc a)
-        → pick (liveOf s e a) (item a Good (f a) ∷ []) [] ++ liveItems f s e (suc a) n ≡ items f a (min (a + suc n) (e + 1) - a)
+        → pick (liveOf s e a) (item a 0 (f a) ∷ []) [] ++ liveItems f s e (suc a) n ≡ items f a (min (a + suc n) (e + 1) - a)
     go true q ih =
         let z : min (a + suc n) (e + 1) - a ≡ suc (min (suc a + n) (e + 1) - suc a) = omega (arith, leb-true a e q) in
-        simp (live-yes s e a h (leb-true a e q)) (rw z (ap (λ (l : List Item). item a Good (f a) ∷ l) ih))
+        simp (live-yes s e a h (leb-true a e q)) (rw z (ap (λ (l : List Item). item a 0 (f a) ∷ l) ih))
     go false q ih =
         let y : min (a + suc n) (e + 1) - a ≡ 0 = omega (arith, leb-false a e q) in
         let z : min (suc a + n) (e + 1) - suc a ≡ 0 = omega (arith, leb-false a e q) in
@@ -109,19 +108,15 @@ live-items f s e (suc n) a h o u = go (leb s a) refl (live-items f s e n (suc a)
     go false q ih = simp (live-under s e a (leb-false s a q)) (ih (leb-false s a q) o (omega arith))
 
 module _ (l : Log) (area : List ℕ) (f : ℕ → List ℕ) (s e : ℕ) (fits : fittingOf l (length area) ≡ true) where
-  good-row : (slot off n : ℕ) → slot < l .k → off + n ≤ l .c → rowQuestion l area slot off n ≡ Good
+  good-row : (slot off n : ℕ) → slot < l .k → off + n ≤ l .c → rowQuestion l area slot off n ≡ 0
   unfolding rowQuestion outsideOf
   good-row slot off n in-area in-slot = simp (fits, lt-leb (l .k) slot in-area, le-ltb (l .c) (off + n) in-slot)
-
-  good-payload : (slot off n : ℕ) → rowQuestion l area slot off n ≡ Good → payloadOf l area slot off n ≡ part (slot * l .c + off) n area
-  unfolding payloadOf
-  good-payload slot off n good = simp good
 
   module _ (g : Segment) (in-area : g .slot < l .k) (in-slot : g .size ≤ l .c) where
     -- the row of a record that stands in the image
     row-record : (id : ℕ) (p pre post : List ℕ) → imageIn area (l .c) g ≡ pre ++ (recordBytes id p ++ post)
         → g .size ≡ length (pre ++ (recordBytes id p ++ post))
-        → (rowQuestion l area (g .slot) (length pre + 12) (length p) ≡ Good) × (payloadOf l area (g .slot) (length pre + 12) (length p) ≡ p)
+        → (rowQuestion l area (g .slot) (length pre + 12) (length p) ≡ 0) × (payloadOf l area (g .slot) (length pre + 12) (length p) ≡ p)
     row-record id p pre post is long =
         let size : g .size ≡ length pre + (recordRoom (length p) + length post) =
         long ∙ length-append pre (recordBytes id p ++ post)
@@ -129,7 +124,7 @@ module _ (l : Log) (area : List ℕ) (f : ℕ → List ℕ) (s e : ℕ) (fits : 
         let inside : length pre + 12 + length p ≤ g .size = omega (arith, room-ge (length p)) in
         let good = good-row (g .slot) (length pre + 12) (length p) in-area (omega arith) in (
           good,
-          good-payload (g .slot) (length pre + 12) (length p) good
+          payload-good l area (g .slot) (length pre + 12) (length p) good
               ∙ sym (part-part (g .slot * l .c) (g .size) (length pre + 12) (length p) area inside)
               ∙ ap (part (length pre + 12) (length p)) is
               ∙ ap (take (length p)) (drop-append-add pre (recordBytes id p ++ post) 12) ∙ record-payload id p post,
@@ -153,13 +148,13 @@ module _ (l : Log) (area : List ℕ) (f : ℕ → List ℕ) (s e : ℕ) (fits : 
         rest = rowsOver f s e (g .slot) (length pre + recordRoom (length (f b))) (suc b) n
 
         go : (t : Bool) → delivered l area (rest ++ ws) ≡ liveItems f s e (suc b) n ++ delivered l area ws
-            → rowQuestion l area (g .slot) (length pre + 12) (length (f b)) ≡ Good
+            → rowQuestion l area (g .slot) (length pre + 12) (length (f b)) ≡ 0
             → payloadOf l area (g .slot) (length pre + 12) (length (f b)) ≡ f b
             → delivered l area ((rowOf t b (g .slot) (length pre + 12) (length (f b)) ++ rest) ++ ws)
-            ≡ (pick t (item b Good (f b) ∷ []) [] ++ liveItems f s e (suc b) n) ++ delivered l area ws
+            ≡ (pick t (item b 0 (f b) ∷ []) [] ++ liveItems f s e (suc b) n) ++ delivered l area ws
         go true ih q r =
-            ap (λ (x : RowAnswer). item b x (payloadOf l area (g .slot) (length pre + 12) (length (f b))) ∷ delivered l area (rest ++ ws)) q
-            ∙ ap (λ (p : List ℕ). item b Good p ∷ delivered l area (rest ++ ws)) r ∙ ap (λ (x : List Item). item b Good (f b) ∷ x) ih
+            ap (λ (x : ℕ). item b x (payloadOf l area (g .slot) (length pre + 12) (length (f b))) ∷ delivered l area (rest ++ ws)) q
+            ∙ ap (λ (p : List ℕ). item b 0 p ∷ delivered l area (rest ++ ws)) r ∙ ap (λ (x : List Item). item b 0 (f b) ∷ x) ih
         go false ih q r = ih
 
   -- the rows of all listed segments

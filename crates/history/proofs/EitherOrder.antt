@@ -1,33 +1,35 @@
 -- The two prunes of demand 3 may be made in either order: the proof of specs/Corollaries.antt's statement. The log cut at e is, to
 -- recovery, an earlier moment of the log itself, so recovering s..e from the log's images gives the log of both orders.
 -- Assumes nothing.
+use mathlib.Core.Bool.{true}
 use mathlib.Core.List.{List, _∷_, []}
 use mathlib.Core.Path.{_≡_, _∙_, refl, subst, sym, ap}
 use Prim.Native.Nat.{ℕ, _<_, _≤_, _*_}
 use native.Mathlib.Omega.{arith}
+use Rattle.lists.proofs.AnyOrder.{any-refl}
 use Rattle.seglog.specs.Log.{View}
 use Rattle.seglog.specs.declared.Log.{Log}
-use Rattle.seglog.specs.declared.Segment.{Segment}
+use Rattle.segment.specs.declared.Segment.{Segment}
 use Rattle.seglog_prune.specs.Prune.{pruneRecentOf, pruned}
-use Rattle.image_rows.specs.declared.ImageRow.{ImageRow}
-use Rattle.recovery.specs.Recovery.{recovered}
+use Rattle.segment.specs.declared.ImageRow.{ImageRow}
 use Rattle.history.specs.Corollaries.{PrunesInEitherOrder}
 use Rattle.history.specs.Demand.{AnyOrder, rowsFor, idsIn, prunesTo}
 use Rattle.history.specs.History.{run, recent, oldest, step, afterPrune, Held, lastUnder, begun}
 use Rattle.history.proofs.Invariant.{Holds, some-live}
 use Rattle.history.proofs.Later.{After, Grows, ended-grows}
-use Rattle.history.proofs.Prunes.{Inner, New, at-new, endedView, ended-holds, prune-inner, recent-is}
+use Rattle.seglog_prune.proofs.Decide.{Inner, prune-passes, pruned-same}
+use Rattle.history.proofs.Prunes.{New, at-new, endedView, ended-holds, recent-is}
 use Rattle.history.proofs.Runs.{Any, heldOf, recent-log, oldest-log, Came, runs-keep, on-view}
-use Rattle.history.proofs.Shape.{holds-fits}
 use Rattle.history.proofs.Slots.{Stored}
-use Rattle.history.proofs.Views.{Brings, brings}
+use Rattle.history.proofs.Views.{Brings, brings, recovered-log}
 use Rattle.history.proofs.Whole.{brings-self, recent-whole}
 
 module _ (a : View) (area : List ℕ) (f : ℕ → List ℕ) (h : Holds a area f) (s e : ℕ) (above : 0 < s) (order : s ≤ e) (from : a .start ≤ s)
     (to : e ≤ a .end) where
-  inner : Inner a e
+  inner : Inner a true e
   inner =
       record {
+        good = refl;
         some = some-live (a .segs) (a .start) (a .end) (h .j) (omega arith) (h .live);
         above = omega arith;
         upper = to;
@@ -45,9 +47,9 @@ module _ (a : View) (area : List ℕ) (f : ℕ → List ℕ) (h : Holds a area f
   unfolding found
   cut-holds = ended-holds a area f e h inner
 
-  prunes-cut : pruneRecentOf a area e ≡ pruned cut area
+  prunes-cut : pruneRecentOf a true area e ≡ pruned cut area
   unfolding pruneRecentOf found
-  prunes-cut = prune-inner a area e _ (holds-fits a area f h) inner ∙ recent-is a area f e h inner
+  prunes-cut = prune-passes a true area e _ inner ∙ recent-is a area f e h inner
 
   -- to recovery, a is what became of it
   cut-after : After cut f a f
@@ -76,18 +78,15 @@ module _ (a : View) (area : List ℕ) (f : ℕ → List ℕ) (h : Holds a area f
     -- recovery gives one log
     one-log : from-cut .log ≡ from-self .log
     one-log =
-        let q : recovered (from-cut .log) area (from-cut .words) ≡ recovered (from-self .log) area (from-self .words) =
-        sym (from-cut .accepts) ∙ from-self .accepts in
-        cc
+        recovered-log (sym (from-cut .accepts) ∙ from-self .accepts)
 
     -- prune recent to the live end leaves the log cut at e
     no-second-cut : from-cut .older ≡ from-cut .log
     no-second-cut =
         let end : from-cut .older .end ≡ e = from-cut .older-end in
-        let q : pruned (from-cut .older) area ≡ pruned (from-cut .log) area =
-        sym (recent-whole (from-cut .older) area f (from-cut .older-holds) (omega arith))
-        ∙ ap (pruneRecentOf (from-cut .older) area) end ∙ from-cut .then in
-        cc
+        pruned-same _ _ area area
+        (sym (recent-whole (from-cut .older) area f (from-cut .older-holds) (omega arith))
+        ∙ ap (pruneRecentOf (from-cut .older) true area) end ∙ from-cut .then)
 
     both-orders : run (heldOf a area) (recent e ∷ oldest s ∷ []) ≡ run (heldOf a area) (prunesTo s e)
     unfolding run
@@ -105,11 +104,6 @@ module _ (a : View) (area : List ℕ) (f : ℕ → List ℕ) (h : Holds a area f
         ap (λ (x : Held). step x (oldest s)) first-cut ∙ then-old ∙ ap (λ (x : View). heldOf x area) (no-second-cut ∙ one-log)
         ∙ sym (ap (λ (x : Held). step x (recent e)) first-old ∙ then-cut)
 
--- rows in their own order
-own-order : (rows : List ImageRow) → AnyOrder rows rows
-own-order [] = refl
-own-order (r ∷ rows) = record { before = []; behind = rows; whole = refl; others = own-order rows }
-
 -- the two prunes may be made in either order
 pub prunes-in-either-order : PrunesInEitherOrder
 prunes-in-either-order k c m area calls new t is s e above order from to =
@@ -118,4 +112,4 @@ prunes-in-either-order k c m area calls new t is s e above order from to =
     let a : View = came .view in
     on-view (λ (x : Held). run x (recent e ∷ oldest s ∷ []) ≡ run x (prunesTo s e)) t f came
     (both-orders a (t .area) f (came .holds) s e above order (subst (λ (x : Log). x .start ≤ s) (came .packed) from)
-    (subst (λ (x : Log). e ≤ x .end) (came .packed) to) (rowsFor (a .segs)) (own-order (rowsFor (a .segs))))
+    (subst (λ (x : Log). e ≤ x .end) (came .packed) to) (rowsFor (a .segs)) (any-refl (rowsFor (a .segs))))

@@ -8,11 +8,11 @@ use lib.ListN.{replicate, length}
 use Rattle.page.proofs.Page.{whole}
 use Rattle.page.specs.Page.{paddedEnd, multipleFrom}
 use Rattle.record.specs.Record.{recordRoom}
-use Rattle.seglog.specs.Log.{logOf, plainOf, zerosOf, fitsOf, shapedOf, sizesOf, chainOf, apartOf, endsOf, freshIn}
+use Rattle.seglog.specs.Log.{logOf, plainOf, zerosOf, fittingOf, shapedOf, sizesOf, chainOf, apartOf, endsOf, freshIn}
 use Rattle.seglog.specs.New.{newOf, roomyOf}
-use Rattle.seglog.specs.declared.Segment.{Segment}
-use Rattle.seglog_append.specs.Append.{appendLog, appendOf, opensOf, nextId, freeFrom}
-use Rattle.recovery_walk.specs.Images.{behind}
+use Rattle.segment.specs.declared.Segment.{Segment}
+use Rattle.seglog_append.specs.Deciding.{decideLog, decideOf, opensOf, nextId, freeFrom}
+use Rattle.seglog_append.specs.Appending.{appendLog}
 use Rattle.recovery.specs.Recovery.{recoveryAnswer, recoveryArea, recoveryIndex}
 use Rattle.history.specs.Demand.{earlier, Asked, rowFor, payloadAt, recovering}
 use Rattle.history.specs.History.{Held, append, run, lastUnder, begun, told}
@@ -37,12 +37,12 @@ abbrev segment : Segment
 segment = record { id = 1; slot = 0; size = 4096; min = 1; max = 1 }
 
 log-is : held .log ≡ logOf (record { k = 1; c = 4096; m = 4096; start = 1; end = 1; segs = segment ∷ [] })
-unfolding run appendLog appendOf plainOf zerosOf fitsOf shapedOf sizesOf chainOf apartOf endsOf opensOf nextId freeFrom freshIn recordRoom
+unfolding run appendLog decideLog decideOf fittingOf plainOf zerosOf shapedOf sizesOf chainOf apartOf endsOf opensOf nextId freeFrom freshIn recordRoom
     paddedEnd multipleFrom newOf roomyOf
 log-is = refl
 
 last-is : lastUnder (begun 1 4096 4096 area) (append bytes ∷ []) 1 ≡ bytes
-unfolding told run appendLog appendOf plainOf zerosOf fitsOf shapedOf sizesOf chainOf apartOf endsOf opensOf nextId freeFrom freshIn
+unfolding told run appendLog decideLog decideOf fittingOf plainOf zerosOf shapedOf sizesOf chainOf apartOf endsOf opensOf nextId freeFrom freshIn
     recordRoom paddedEnd multipleFrom newOf roomyOf
 last-is = refl
 

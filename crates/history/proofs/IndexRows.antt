@@ -7,24 +7,23 @@ use native.Mathlib.Nat.{add-zero}
 use native.Mathlib.Omega.{arith}
 use lib.ListN.{getD, length}
 use Rattle.seglog.specs.declared.Log.{Log}
-use Rattle.payload.specs.Payload.{rowQuestion, payloadOf}
-use Rattle.payload.specs.declared.RowAnswer.the-variants.{Good}
+use Rattle.payload.specs.Row.{rowQuestion, payloadOf}
 use Rattle.history.specs.Demand.{rowWord, questionAt, payloadAt}
 use Rattle.history.proofs.Deliver.{delivered, items}
 
 -- row i has the id a + i, is good, and its payload is what f has for that id
 pub record RowIs (l : Log) (area index : List ℕ) (f : ℕ → List ℕ) (a i : ℕ) : Type 0 where
   pub id-is : rowWord index i 0 ≡ a + i
-  pub good : questionAt l area index i ≡ Good
+  pub good : questionAt l area index i ≡ 0
   pub payload : payloadAt l area index i ≡ f (a + i)
 
 -- behind the first row, each row is one row further on
-shift : (x y z w : ℕ) (ws : List ℕ) (i j : ℕ) → rowWord (x ∷ y ∷ z ∷ w ∷ ws) (suc i) j ≡ rowWord ws i j
+pub shift : (x y z w : ℕ) (ws : List ℕ) (i j : ℕ) → rowWord (x ∷ y ∷ z ∷ w ∷ ws) (suc i) j ≡ rowWord ws i j
 shift x y z w ws i j =
     let e : 4 * suc i + j ≡ suc (suc (suc (suc (4 * i + j)))) = omega arith in ap (λ (k : ℕ). getD (x ∷ y ∷ z ∷ w ∷ ws) k 0) e
 
 module _ (l : Log) (area : List ℕ) (f : ℕ → List ℕ) where
-  first-row : (a x y z w : ℕ) (ws : List ℕ) → x ≡ a → rowQuestion l area y z w ≡ Good → payloadOf l area y z w ≡ f a
+  first-row : (a x y z w : ℕ) (ws : List ℕ) → x ≡ a → rowQuestion l area y z w ≡ 0 → payloadOf l area y z w ≡ f a
       → RowIs l area (x ∷ y ∷ z ∷ w ∷ ws) f a 0
   first-row a x y z w ws p q r = record { id-is = p ∙ sym (add-zero a); good = q; payload = r ∙ ap f (sym (add-zero a)) }
 

@@ -7,7 +7,7 @@ use Prim.Native.Nat.{ℕ, _≤_, _*_, _+_, _^_, _<_}
 use native.Mathlib.Omega.{arith}
 use lib.ListN.{length}
 use Rattle.seglog.specs.Log.{View, sizesOf, apartOf, emptyOf}
-use Rattle.seglog.specs.declared.Segment.{Segment}
+use Rattle.segment.specs.declared.Segment.{Segment}
 use Rattle.history.proofs.Chain.{Chain}
 use Rattle.history.proofs.Slots.{Stored}
 

@@ -9,8 +9,8 @@ use native.Mathlib.Omega.{arith}
 use lib.Dec.{leb, ltb}
 use borrow.Author.Tests.{lt-leb, le-leb, le-ltb, ltb-false, ltb-true}
 use Rattle.lists.specs.Choice.{pick}
-use Rattle.seglog.specs.declared.Segment.{Segment}
-use Rattle.seglog_prune.specs.Prune.{dropNew, keepAt, dropOld}
+use Rattle.segment.specs.declared.Segment.{Segment}
+use Rattle.seglog_prune.specs.Drop.{dropNew, keepAt, dropOld}
 use Rattle.recovery.specs.Recovery.{keptOf, holdsLive}
 use Rattle.history.proofs.Chain.{Chain}
 use Rattle.history.proofs.Later.{More, Grows}

@@ -1,22 +1,22 @@
 -- Appends that follow leave the earlier segments, but for the head, which grows, and the payloads up to the earlier live end.
 -- Assumes nothing.
-use mathlib.Core.Bool.{not, _&&_, Bool, true, false}
+use mathlib.Core.Bool.{Bool, true, false}
 use mathlib.Core.List.{List, [], _∷_, _++_}
 use mathlib.Core.Path.{_≡_, refl, _∙_, ap, sym, subst}
 use Prim.Native.Nat.{_≤_, _-_, _+_, _<_, ℕ}
 use native.Mathlib.Omega.{arith}
-use lib.Dec.{ltb, eqb}
 use lib.ListN.{length}
 use borrow.Author.Tests.{ne-eqb}
-use Rattle.lists.proofs.Cases.{pick-either}
 use Rattle.lists.specs.Choice.{pick}
-use Rattle.record.specs.Record.{maxPayload, recordRoom}
+use Rattle.record.specs.Record.{recordRoom}
 use Rattle.seglog.proofs.View.{ends-with}
-use Rattle.seglog.specs.Log.{View, fitsOf, frontOf, headOf}
-use Rattle.seglog.specs.declared.Segment.{Segment}
-use Rattle.seglog_append.specs.Append.{appendOf, refused, opensOf, nextId, lowestFree, targetOf, Appending, grownOf, freshOf}
+use Rattle.seglog.specs.Log.{View, frontOf, headOf}
+use Rattle.segment.specs.declared.Segment.{Segment}
+use Rattle.seglog_append.specs.Deciding.{opensOf, freshOf}
+use Rattle.seglog_append.specs.Appending.{appendOf, grownOf}
+use Rattle.seglog_append.proofs.Deciding.{opens-no}
+use Rattle.seglog_append.proofs.Appending.{append-view-outcomes}
 use Rattle.history.specs.History.{append, appends, Held, run, told, step, heardCall}
-use Rattle.history.proofs.Appends.{opens-some}
 use Rattle.history.proofs.Chain.{chain-ends, Chain}
 use Rattle.history.proofs.Invariant.{Holds}
 use Rattle.history.proofs.Prunes.{closedBy}
@@ -93,15 +93,9 @@ after-refl a f =
 -- an append goes on from there
 append-after : (a₀ : View) (f₀ : ℕ → List ℕ) (a : View) (area : List ℕ) (f : ℕ → List ℕ) (p : List ℕ) → Holds a area f → After a₀ f₀ a f
     → AppendAlso (After a₀ f₀) f p (appendOf a area p)
-unfolding appendOf
 append-after a₀ f₀ a area f p h w =
-    pick-either Keeps (not (fitsOf a area)) (refused 2) _ (λ q. tt)
-    (λ q. pick-either Keeps (ltb maxPayload (length p)) (refused 3) _ (λ q. tt)
-    (λ q. pick-either Keeps (eqb (a .end) 18446744073709551615) (refused 4) _ (λ q. tt)
-    (λ q. pick-either Keeps (opensOf a && eqb (nextId (a .segs)) 0) (refused 5) _ (λ q. tt)
-    (λ q. pick-either Keeps (opensOf a && eqb (lowestFree a) (a .k)) (refused 6) _ (λ q. tt)
-    (λ q. pick-either Keeps (ltb (a .c - targetOf a .size) (recordRoom (length p))) (refused 7) _ (λ q. tt)
-    (λ q. record {
+    append-view-outcomes a area p (AppendAlso (After a₀ f₀) f p) (λ n q. tt)
+    (λ ok. record {
       k = w .k;
       c = w .c;
       m = w .m;
@@ -111,11 +105,8 @@ append-after a₀ f₀ a area f p h w =
       end = omega (arith, w .end);
       same = λ i l. sym (noted-other f (a .end + 1) p i (omega (arith, w .end))) ∙ w .same i l;
       grows = by (opensOf a) refl;
-    }))))))
+    })
   where
-    Keeps : Appending → Type 0
-    Keeps = AppendAlso (After a₀ f₀) f p
-
     last : Segment → Segment
     last g = grownOf g (recordRoom (length p)) (a .end + 1)
 
@@ -129,7 +120,7 @@ append-after a₀ f₀ a area f p h w =
     by : (t : Bool) → opensOf a ≡ t → Grows (a₀ .segs)
         (pick t (a .segs) (frontOf (a .segs)) ++ (last (pick t (freshOf a) (headOf (a .segs))) ∷ []))
     by true q = grows-more (a₀ .segs) (a .segs) (last (freshOf a) ∷ []) (w .grows)
-    by false q = to-head (opens-some a q)
+    by false q = to-head (opens-no a q)
 
 -- appends alone
 pub appends-after : (a₀ : View) (f₀ : ℕ → List ℕ) (ps : List (List ℕ)) (t : Held) (f : ℕ → List ℕ) → Came (After a₀ f₀) t f

@@ -18,6 +18,10 @@ pub mod OwnRows
 pub mod Views
 pub mod IndexRows
 pub mod Theorem
+pub mod RelocationWalk
+pub mod RelocationOutcome
+pub mod Relocation
+pub mod RelocationDemand
 pub mod Recorded
 pub mod Refused
 pub mod Whole

@@ -1,6 +1,6 @@
 -- The image rows of a log of which the invariant holds, in order: they pass the tests of refusals 13 to 15.
 -- Assumes nothing.
-use mathlib.Core.Bool.{false, Bool, _&&_, true}
+use mathlib.Core.Bool.{false, Bool, _&&_, true, not}
 use mathlib.Core.List.{List, [], _∷_}
 use mathlib.Core.Logic.{⊎-elim}
 use mathlib.Core.Path.{_≡_, refl, ap, _∙_, subst, sym}
@@ -11,8 +11,10 @@ use lib.ListN.{length}
 use borrow.Author.Tests.{lt-ltb, le-leb, ne-eqb, eq-eqb}
 use Rattle.lists.specs.Choice.{pick}
 use Rattle.seglog.specs.Log.{freshIn, apartOf}
-use Rattle.seglog.specs.declared.Segment.{Segment}
-use Rattle.image_rows.specs.ImageRows.{freshRow, rowsApart, rowsInside, lowestZero, oneApart}
+use Rattle.segment.specs.declared.Segment.{Segment}
+use Rattle.lists.specs.Each.{all, linked}
+use Rattle.lists.specs.Distinct.{fresh, distinct}
+use Rattle.image_rows.specs.ImageRows.{rowsApart, rowsInside, lowestZero, oneApart}
 use Rattle.history.specs.Demand.{rowsFor}
 use Rattle.history.proofs.Chain.{Chain}
 use Rattle.history.proofs.Scans.{Has}
@@ -24,14 +26,18 @@ pub length-rows : (gs : List Segment) → length (rowsFor gs) ≡ length gs
 length-rows [] = refl
 length-rows (g ∷ gs) = ap suc (length-rows gs)
 
-fresh-rows : (s : ℕ) (gs : List Segment) → freshRow s (rowsFor gs) ≡ freshIn s gs
-unfolding freshIn freshRow
+fresh-rows : (s : ℕ) (gs : List Segment) → fresh (λ r. r .slot) s (rowsFor gs) ≡ freshIn s gs
+unfolding freshIn all
 fresh-rows s [] = refl
-fresh-rows s (g ∷ gs) = ap (pick (eqb s (g .slot)) false) (fresh-rows s gs)
+fresh-rows s (g ∷ gs) = go (eqb s (g .slot)) (fresh-rows s gs)
+  where
+    go : (b : Bool) → fresh (λ r. r .slot) s (rowsFor gs) ≡ freshIn s gs → not b && fresh (λ r. r .slot) s (rowsFor gs) ≡ pick b false (freshIn s gs)
+    go true e = refl
+    go false e = e
 
 -- distinct slots
 pub apart-rows : (gs : List Segment) → rowsApart (rowsFor gs) ≡ apartOf gs
-unfolding apartOf rowsApart
+unfolding apartOf distinct
 apart-rows [] = refl
 apart-rows (g ∷ gs) =
     ap (λ (x : Bool). x && rowsApart (rowsFor gs)) (fresh-rows (g .slot) gs) ∙ ap (λ (x : Bool). freshIn (g .slot) gs && x) (apart-rows gs)
@@ -50,7 +56,7 @@ module _ (area : List ℕ) (f : ℕ → List ℕ) (k c : ℕ) where
 
   -- slots below K, sizes at most C
   pub inside-rows : (gs : List Segment) (i b j d : ℕ) → Chain G i b gs j d → rowsInside k c (rowsFor gs) ≡ true
-  unfolding rowsInside
+  unfolding all
   inside-rows [] i b j d h = refl
   inside-rows (g ∷ gs) i b j d h =
       simp (lt-ltb (g .slot) k (h .0 .good .slot), le-leb (g .size) c (h .0 .good .room)) (inside-rows gs (i + 1) (g .max + 1) j d (h .1))
@@ -63,7 +69,7 @@ module _ (area : List ℕ) (f : ℕ → List ℕ) (k c : ℕ) where
 
   -- neighbours are 1 apart
   pub next-rows : (gs : List Segment) (i b j d : ℕ) → Chain G i b gs j d → oneApart (rowsFor gs) ≡ true
-  unfolding oneApart
+  unfolding linked
   next-rows [] i b j d h = refl
   next-rows (g ∷ []) i b j d h = refl
   next-rows (g ∷ x ∷ gs) i b j d h =

@@ -13,25 +13,25 @@ use Rattle.lists.proofs.Cases.{pick-either}
 use Rattle.lists.proofs.Bools.{clash, and-both, both-and}
 use Rattle.seglog.proofs.Slots.{fresh-cons, cons-fresh, snoc-apart, apart-snoc}
 use Rattle.seglog.proofs.View.{front-snoc, head-snoc}
+use Rattle.seglog.proofs.Fit.{sizes-are}
 use Rattle.seglog.specs.Log.{View, fitsOf, apartOf, freshIn, frontOf, headOf}
-use Rattle.seglog.specs.declared.Segment.{Segment}
+use Rattle.segment.specs.declared.Segment.{Segment}
+use Rattle.segment.specs.Segment.{imageIn, endedAt}
+use Rattle.lists.specs.Outcome.{Outcome, refused, done}
+use Rattle.seglog_prune.specs.Drop.{dropOld, dropNew, keepAt}
+use Rattle.seglog_prune.specs.Cut.{findCut}
 use Rattle.seglog_prune.specs.Prune.{
-  Pruning,
-  refused,
+  Pruned,
   pruned,
   pruneOf,
-  dropOld,
   startedAt,
   pruneOldestOf,
-  dropNew,
-  keepAt,
   cutOff,
-  findCut,
-  imageIn,
-  cutAt,
   pruneRecentOf,
 }
-use Rattle.history.specs.Recorded.{recordsFrom}
+use Rattle.seglog_prune.specs.Prune as Prune
+use Rattle.seglog_prune.proofs.Decide.{Inner, prune-ways, prune-passes}
+use Rattle.walk.specs.Records.{recordsFrom}
 use Rattle.history.proofs.Chain.{Chain, chain-join}
 use Rattle.history.proofs.Cuts.{cut-records}
 use Rattle.history.proofs.Invariant.{Holds, empty-holds, Live}
@@ -40,46 +40,16 @@ use Rattle.history.proofs.Shape.{holds-fits}
 use Rattle.history.proofs.Slots.{Stored}
 
 -- what a prune's outcome keeps: a refusal is 8 or 9
-abbrev pub PruneKeeps : (ℕ → List ℕ) → Pruning → Type 0
+abbrev pub PruneKeeps : (ℕ → List ℕ) → Outcome Pruned → Type 0
 PruneKeeps f (refused n) = (8 ≤ n) × (n ≤ 9)
-PruneKeeps f (pruned a area) = Holds a area f
+PruneKeeps f (done p) = Holds (p .log) (p .area) f
 
--- the tests that lead past the easy outcomes and 8 and 9
-pub record Inner (a : View) (n : ℕ) : Type 0 where
-  pub some : 0 < length (a .segs)
-  pub above : 0 < n
-  pub upper : n ≤ a .end
-  pub lower : a .start ≤ n
-
-prune-keeps : (a : View) (area : List ℕ) (f : ℕ → List ℕ) (n : ℕ) (rest : Pruning) → Holds a area f → (Inner a n → PruneKeeps f rest)
-    → PruneKeeps f (pruneOf a area n rest)
-unfolding pruneOf
+-- it is enough to show it past the tests
+prune-keeps : (a : View) (area : List ℕ) (f : ℕ → List ℕ) (n : ℕ) (rest : Outcome Pruned) → Holds a area f
+    → (Inner a true n → PruneKeeps f rest) → PruneKeeps f (pruneOf a true area n rest)
 prune-keeps a area f n rest h k =
-    pick-either (PruneKeeps f) (not (fitsOf a area)) (refused 2) _ (λ q. clash (sym (ap not (holds-fits a area f h)) ∙ q))
-    (λ q2. pick-either (PruneKeeps f) (eqb n 0) _ _ (λ q. empty-holds (a .k) (a .c) (a .m) area f (h .sizes) (h .all))
-    (λ q0. pick-either (PruneKeeps f) (eqb (length (a .segs)) 0) _ _ (λ q. h)
-    (λ q1. pick-either (PruneKeeps f) (ltb (a .end) n) (refused 8) _ (λ q. (omega arith, omega arith))
-    (λ q8. pick-either (PruneKeeps f) (ltb n (a .start)) (refused 9) _ (λ q. (omega arith, omega arith))
-    (λ q9. k (record {
-      some = omega (arith, eqb-false (length (a .segs)) 0 q1);
-      above = omega (arith, eqb-false n 0 q0);
-      upper = ltb-false (a .end) n q8;
-      lower = ltb-false n (a .start) q9;
-    }))))))
-
--- past the tests, the rest
-pub prune-inner : (a : View) (area : List ℕ) (n : ℕ) (rest : Pruning) → fitsOf a area ≡ true → Inner a n → pruneOf a area n rest ≡ rest
-unfolding pruneOf
-prune-inner a area n rest h w =
-    let above = w .above in
-    let some = w .some in
-    simp (
-      h,
-      ne-eqb n 0 (λ z. omega arith),
-      ne-eqb (length (a .segs)) 0 (λ z. omega arith),
-      le-ltb (a .end) n (w .upper),
-      le-ltb n (a .start) (w .lower),
-    )
+    prune-ways a true area n rest (PruneKeeps f) (λ q. clash (sym q))
+    (λ q. empty-holds (a .k) (a .c) (a .m) area f (h .sizes) (h .all)) (λ q. h) (omega arith, omega arith) (omega arith, omega arith) k
 
 -- ---- oldest
 
@@ -123,7 +93,7 @@ live-low P [] i b s e j c l h v = absurd (omega arith)
 live-low P (g ∷ gs) i b s e j c l h v = omega (arith, h .0 .min, v .0)
 
 -- the invariant after prune oldest
-pub oldest-holds : (a : View) (area : List ℕ) (f : ℕ → List ℕ) (n : ℕ) → Holds a area f → Inner a n
+pub oldest-holds : (a : View) (area : List ℕ) (f : ℕ → List ℕ) (n : ℕ) → Holds a area f → Inner a true n
     → Holds (startedAt a n (dropOld n (a .segs))) area f
 oldest-holds a area f n h w =
     let P : Segment → Type 0 = Stored area f (a .k) (a .c) in
@@ -145,7 +115,7 @@ oldest-holds a area f n h w =
     }
 
 -- prune oldest keeps the invariant
-pub oldest-keeps : (a : View) (area : List ℕ) (f : ℕ → List ℕ) (n : ℕ) → Holds a area f → PruneKeeps f (pruneOldestOf a area n)
+pub oldest-keeps : (a : View) (area : List ℕ) (f : ℕ → List ℕ) (n : ℕ) → Holds a area f → PruneKeeps f (pruneOldestOf a true area n)
 unfolding pruneOldestOf
 oldest-keeps a area f n h =
     prune-keeps a area f n (pruned (startedAt a n (dropOld n (a .segs))) area) h (λ w. oldest-holds a area f n h w)
@@ -227,18 +197,18 @@ apart-front (g ∷ hs) gs h =
 
 -- g ends with the record n, whose payloads f has
 abbrev pub closedBy : (ℕ → List ℕ) → Segment → ℕ → Segment
-closedBy f g n = record { id = g .id; slot = g .slot; size = length (recordsFrom f (g .min) (n + 1 - g .min)); min = g .min; max = n }
+closedBy f g n = endedAt g n (length (recordsFrom f (g .min) (n + 1 - g .min)))
 
 -- the log that ends with the record n in g, after hs
 abbrev pub endedView : View → (ℕ → List ℕ) → ℕ → List Segment → Segment → View
-endedView a f n hs g = record { k = a .k; c = a .c; m = a .m; start = a .start; end = n; segs = hs ++ (closedBy f g n ∷ []) }
+endedView a f n hs g = Prune.endedView a n hs g (length (recordsFrom f (g .min) (n + 1 - g .min)))
 
 live-ended : (hs rest : List Segment) (g y : Segment) (s e j e′ j′ : ℕ) → Live s e j (hs ++ (g ∷ rest)) → y .min ≡ g .min → s ≤ y .max
     → Live s e′ j′ (hs ++ (y ∷ []))
 live-ended [] rest g y s e j e′ j′ h q l = (omega (arith, h .0), omega arith)
 live-ended (x ∷ hs) rest g y s e j e′ j′ h q l = (h .0, h .1)
 
-module _ (a : View) (area : List ℕ) (f : ℕ → List ℕ) (n : ℕ) (h : Holds a area f) (w : Inner a n) where
+module _ (a : View) (area : List ℕ) (f : ℕ → List ℕ) (n : ℕ) (h : Holds a area f) (w : Inner a true n) where
   abbrev P : Segment → Type 0
   P = Stored area f (a .k) (a .c)
 
@@ -254,11 +224,12 @@ module _ (a : View) (area : List ℕ) (f : ℕ → List ℕ) (n : ℕ) (h : Hold
       → cutOff a area n hs g (findCut (imageIn area (a .c) g) n 0) ≡ pruned (endedView a f n hs g) area
   ended hs g good low high =
       let fit = from-front f (g .min) (n + 1 - g .min) (g .max + 1 - g .min) (omega arith) in
-      let found : findCut (imageIn area (a .c) g) n 0 ≡ cutAt (length (recordsFrom f (g .min) (n + 1 - g .min))) =
+      let found : findCut (imageIn area (a .c) g) n 0 ≡ done (length (recordsFrom f (g .min) (n + 1 - g .min))) =
       ap (λ (l : List ℕ). findCut l n 0) (good .image)
       ∙ cut-records f n (g .max + 1 - g .min) [] (g .min) 0 refl refl
       (record { small = λ i l u. good .small i l (omega arith); ids = omega (arith, good .top) }) low (omega arith)
-      ∙ ap cutAt (omega arith) in
+      (omega (arith, good .long, good .room, sizes-are (a .k) (a .c) (a .m) (h .sizes) .at-most))
+      ∙ ap done (omega arith) in
       ap (cutOff a area n hs g) found
       ∙ ap (pruned (endedView a f n hs g)) (splice-whole (g .slot * a .c + g .size) (length (recordsFrom f (g .min) (n + 1 - g .min)))
       (g .size) area (omega (arith, fit .0, good .long)))
@@ -317,7 +288,7 @@ module _ (a : View) (area : List ℕ) (f : ℕ → List ℕ) (n : ℕ) (h : Hold
       ∙ ended (t .hs) (t .g) (t .good) (t .low) (t .high)
 
 -- prune recent keeps the invariant
-pub recent-keeps : (a : View) (area : List ℕ) (f : ℕ → List ℕ) (n : ℕ) → Holds a area f → PruneKeeps f (pruneRecentOf a area n)
+pub recent-keeps : (a : View) (area : List ℕ) (f : ℕ → List ℕ) (n : ℕ) → Holds a area f → PruneKeeps f (pruneRecentOf a true area n)
 unfolding pruneRecentOf
 recent-keeps a area f n h =
     prune-keeps a area f n _ h (λ w. subst (PruneKeeps f) (sym (recent-is a area f n h w)) (ended-holds a area f n h w))

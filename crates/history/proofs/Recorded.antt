@@ -1,25 +1,27 @@
 -- The invariant as a reader wants it said, and that no call answers 2 or 10: the proofs of specs/Recorded.antt's statements.
 -- Assumes nothing.
+use mathlib.Core.Bool.{true}
 use mathlib.Core.List.{List, [], _∷_, _++_}
 use mathlib.Core.Path.{_≡_, subst, sym, refl}
 use Prim.Native.Nat.{_-_, ℕ, _<_, zero, suc, _+_}
 use native.Mathlib.Omega.{arith}
 use lib.ListN.{length, getD, replicate}
-use Rattle.seglog.specs.Log.{noSegment, View, logOf}
+use Rattle.seglog.specs.Log.{View, logOf}
+use Rattle.segment.specs.Segment.{noSegment, imageIn}
 use Rattle.seglog.specs.declared.Log.{Log}
-use Rattle.seglog.specs.declared.Segment.{Segment}
-use Rattle.seglog_append.specs.Append.{Appending, appendAnswer, appendOf}
-use Rattle.seglog_prune.specs.Prune.{imageIn, Pruning, pruneAnswer, pruneOldestOf, pruneRecentOf}
+use Rattle.segment.specs.declared.Segment.{Segment}
+use Rattle.seglog_append.specs.Appending.{Left, appendAnswer, appendOf}
+use Rattle.lists.specs.Outcome.{Outcome, refused, done}
+use Rattle.seglog_prune.specs.Prune.{Pruned, pruneAnswer, pruneOldestOf, pruneRecentOf}
 use Rattle.history.specs.History.{run, Held, begun, lastUnder, append, Call, refusalOf, oldest, recent}
-use Rattle.history.specs.Recorded.{Recorded, recordsFrom, RunsAreRecorded, RunsNeverMeet2Or10}
+use Rattle.walk.specs.Records.{recordsFrom}
+use Rattle.history.specs.Recorded.{Recorded, RunsAreRecorded, RunsNeverMeet2Or10}
 use Rattle.history.proofs.Appends.{AppendKeeps, append-keeps}
 use Rattle.history.proofs.Chain.{Chain}
 use Rattle.history.proofs.Invariant.{Holds}
 use Rattle.history.proofs.Prunes.{PruneKeeps, oldest-keeps, recent-keeps}
 use Rattle.history.proofs.Runs.{heldOf, log-fitting, runs-keep, on-view, append-log, oldest-log, recent-log}
 use Rattle.history.proofs.Slots.{Stored}
-use Rattle.seglog_append.specs.Append as A
-use Rattle.seglog_prune.specs.Prune as P
 
 -- what holds of each segment of a chain, by its number
 chain-at : (P : Segment → Type 0) (gs : List Segment) (i a j b : ℕ) → Chain P i a gs j b → (n : ℕ) → n < length gs → P (getD gs n noSegment)
@@ -56,24 +58,24 @@ runs-are-recorded k c m area calls new =
 abbrev Never : ℕ → Type 0
 Never n = (n ≡ 2 → ⊥) × (n ≡ 10 → ⊥)
 
-append-never : (f : ℕ → List ℕ) (p : List ℕ) (l : Log) (r : Appending) → AppendKeeps f p r → Never (appendAnswer l r .refusal)
-append-never f p l (A.refused n) k = (λ z. omega (arith, k .0), λ z. omega (arith, k .1))
-append-never f p l (A.appended id a area) k = (λ z. omega arith, λ z. omega arith)
+append-never : (f : ℕ → List ℕ) (p : List ℕ) (l : Log) (r : Outcome Left) → AppendKeeps f p r → Never (appendAnswer l r .refusal)
+append-never f p l (refused n) k = (λ z. omega (arith, k .0), λ z. omega (arith, k .1))
+append-never f p l (done w) k = (λ z. omega arith, λ z. omega arith)
 
-prune-never : (f : ℕ → List ℕ) (l : Log) (r : Pruning) → PruneKeeps f r → Never (pruneAnswer l r .refusal)
-prune-never f l (P.refused n) k = (λ z. omega (arith, k .0), λ z. omega (arith, k .1))
-prune-never f l (P.pruned a area) k = (λ z. omega arith, λ z. omega arith)
+prune-never : (f : ℕ → List ℕ) (l : Log) (r : Outcome Pruned) → PruneKeeps f r → Never (pruneAnswer l r .refusal)
+prune-never f l (refused n) k = (λ z. omega (arith, k .0), λ z. omega (arith, k .1))
+prune-never f l (done p) k = (λ z. omega arith, λ z. omega arith)
 
 never-view : (a : View) (area : List ℕ) (f : ℕ → List ℕ) → Holds a area f → (call : Call) → Never (refusalOf (heldOf a area) call)
 never-view a area f h (append p) =
-    subst (λ (r : Appending). Never (appendAnswer (logOf a) r .refusal)) (sym (append-log a area f h p))
+    subst (λ (r : Outcome Left). Never (appendAnswer (logOf a) r .refusal)) (sym (append-log a area f h p))
     (append-never f p (logOf a) (appendOf a area p) (append-keeps a area f p h))
 never-view a area f h (oldest n) =
-    subst (λ (r : Pruning). Never (pruneAnswer (logOf a) r .refusal)) (sym (oldest-log a area f h n))
-    (prune-never f (logOf a) (pruneOldestOf a area n) (oldest-keeps a area f n h))
+    subst (λ (r : Outcome Pruned). Never (pruneAnswer (logOf a) r .refusal)) (sym (oldest-log a area f h n))
+    (prune-never f (logOf a) (pruneOldestOf a true area n) (oldest-keeps a area f n h))
 never-view a area f h (recent n) =
-    subst (λ (r : Pruning). Never (pruneAnswer (logOf a) r .refusal)) (sym (recent-log a area f h n))
-    (prune-never f (logOf a) (pruneRecentOf a area n) (recent-keeps a area f n h))
+    subst (λ (r : Outcome Pruned). Never (pruneAnswer (logOf a) r .refusal)) (sym (recent-log a area f h n))
+    (prune-never f (logOf a) (pruneRecentOf a true area n) (recent-keeps a area f n h))
 
 -- after any run from a new log no call answers 2 or 10
 pub runs-never-meet-2-or-10 : RunsNeverMeet2Or10

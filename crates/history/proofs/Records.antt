@@ -3,18 +3,16 @@
 use mathlib.Core.List.{List, _++_, append-nil, append-assoc}
 use mathlib.Core.Path.{_≡_, ap, refl, _∙_, sym}
 use Prim.Native.Nat.{_-_, ℕ, suc, _+_, zero, _≤_, _<_, _%_}
-use native.Mathlib.Nat.{add-zero, add-assoc}
+use native.Mathlib.Nat.{add-zero}
 use native.Mathlib.Omega.{arith}
-use lib.Dec.{lit<}
 use lib.ListN.{length, length-append, take, replicate}
 use lib.Seq.{take-at}
 use Rattle.lists.proofs.Splice.{splice-none}
 use Rattle.lists.specs.Splice.{splice}
-use Rattle.page.proofs.Page.{multiple-add, pad-after}
-use Rattle.page.specs.Page.{paddedEnd}
+use Rattle.page.proofs.Page.{multiple-add}
 use Rattle.record.proofs.Record.{record-length, room-pages}
 use Rattle.record.specs.Record.{recordBytes, recordRoom}
-use Rattle.history.specs.Recorded.{recordsFrom}
+use Rattle.walk.specs.Records.{recordsFrom}
 
 -- one record more
 pub from-more : (f : ℕ → List ℕ) (a n : ℕ) → recordsFrom f a (suc n) ≡ recordsFrom f a n ++ recordBytes (a + n) (f (a + n))
@@ -48,11 +46,6 @@ from-pages f a zero = refl
 from-pages f a (suc n) =
     rw (length-append, record-length)
     (multiple-add 4096 (recordRoom (length (f a))) (length (recordsFrom f (suc a) n)) (room-pages (length (f a))) (from-pages f (suc a) n))
-
--- the place behind a record that stands behind whole pages
-pub next-place : (a n : ℕ) → a % 4096 ≡ 0 → paddedEnd 4096 (a + 12 + n) ≡ a + recordRoom n
-unfolding recordRoom
-next-place a n h = ap (paddedEnd 4096) (add-assoc a 12 n) ∙ pad-after 4096 a (12 + n) (lit< tt) h
 
 -- a front of records
 pub from-front : (f : ℕ → List ℕ) (a m n : ℕ) → m ≤ n

@@ -4,8 +4,9 @@ use mathlib.Core.List.{List, [], _∷_}
 use mathlib.Core.Path.{ap, _≡_, refl, _∙_}
 use Prim.Native.Nat.{ℕ}
 use borrow.Author.Tests.{ne-eqb}
-use Rattle.seglog_append.specs.Append.{Appending, appendAnswer, appendLog}
-use Rattle.seglog_prune.specs.Prune.{Pruning, pruneAnswer, oldestLog, recentLog}
+use Rattle.seglog_append.specs.Appending.{Left, appendAnswer, appendLog}
+use Rattle.lists.specs.Outcome.{Outcome, refused, done}
+use Rattle.seglog_prune.specs.Prune.{Pruned, pruneAnswer, oldestLog, recentLog}
 use Rattle.history.specs.Corollaries.{RefusedCallsDoNotMatter}
 use Rattle.history.specs.History.{
   append,
@@ -22,18 +23,16 @@ use Rattle.history.specs.History.{
   recent,
   told,
 }
-use Rattle.seglog_append.specs.Append as A
-use Rattle.seglog_prune.specs.Prune as P
 
 -- a refused append leaves all
-append-leaves : (t : Held) (f : ℕ → List ℕ) (p : List ℕ) (r : Appending) → (appendAnswer (t .log) r .refusal ≡ 0 → ⊥)
+append-leaves : (t : Held) (f : ℕ → List ℕ) (p : List ℕ) (r : Outcome Left) → (appendAnswer (t .log) r .refusal ≡ 0 → ⊥)
     → (afterAppend t r ≡ t) × (heard f p (appendAnswer (t .log) r) ≡ f)
-append-leaves t f p (A.refused n) h = (refl, simp (ne-eqb n 0 h))
-append-leaves t f p (A.appended id a area) h = absurd (h refl)
+append-leaves t f p (refused n) h = (refl, simp (ne-eqb n 0 h))
+append-leaves t f p (done w) h = absurd (h refl)
 
-prune-leaves : (t : Held) (r : Pruning) → (pruneAnswer (t .log) r .refusal ≡ 0 → ⊥) → afterPrune t r ≡ t
-prune-leaves t (P.refused n) h = refl
-prune-leaves t (P.pruned a area) h = absurd (h refl)
+prune-leaves : (t : Held) (r : Outcome Pruned) → (pruneAnswer (t .log) r .refusal ≡ 0 → ⊥) → afterPrune t r ≡ t
+prune-leaves t (refused n) h = refl
+prune-leaves t (done p) h = absurd (h refl)
 
 -- a refused call leaves all
 pub refused-leaves : (t : Held) (f : ℕ → List ℕ) (call : Call) → (refusalOf t call ≡ 0 → ⊥) → (step t call ≡ t) × (heardCall f t call ≡ f)

@@ -12,12 +12,14 @@ use borrow.Author.Tests.{eq-eqb, ne-eqb, eqb-true}
 use Rattle.lists.specs.Choice.{pick}
 use Rattle.lists.proofs.Bools.{and-both, both-and}
 use Rattle.seglog.proofs.View.{plain-log, view-log}
-use Rattle.seglog.specs.Log.{View, noSegment, logOf, plainOf, fittingOf, shapedOf, viewOf, sizesOf, emptyOf, zeroLog}
+use Rattle.seglog.specs.Log.{View, logOf, plainOf, fittingOf, shapedOf, viewOf, sizesOf, emptyOf, zeroLog}
+use Rattle.segment.specs.Segment.{noSegment}
 use Rattle.seglog.specs.New.{newOf, accepted, roomyOf, refusedLog}
 use Rattle.seglog.specs.declared.Log.{Log}
-use Rattle.seglog_append.specs.Append.{Appending, appended, appendLog, appendOf, appendAnswer}
-use Rattle.seglog_prune.specs.Prune.{Pruning, pruned, oldestLog, pruneOldestOf, recentLog, pruneRecentOf}
-use Rattle.recovery_walk.specs.Images.{after}
+use Rattle.seglog_append.specs.Appending.{Left, appendLog, appendOf, appendAnswer}
+use Rattle.seglog_append.proofs.Appending.{append-fits}
+use Rattle.lists.specs.Outcome.{Outcome, refused, done}
+use Rattle.seglog_prune.specs.Prune.{Pruned, pruned, oldestLog, pruneOldestOf, recentLog, pruneRecentOf}
 use Rattle.history.specs.History.{
   Held,
   append,
@@ -40,8 +42,6 @@ use Rattle.history.proofs.Appends.{AppendKeeps, append-keeps}
 use Rattle.history.proofs.Invariant.{Holds, empty-holds}
 use Rattle.history.proofs.Prunes.{PruneKeeps, oldest-keeps, recent-keeps}
 use Rattle.history.proofs.Shape.{holds-few, sizes-few, fits-both, holds-fits}
-use Rattle.seglog_append.specs.Append as A
-use Rattle.seglog_prune.specs.Prune as P
 
 -- the listed segments, of a view's log
 pub listed-log : (a : View) → take (length (a .segs)) (a .segs ++ replicate (64 - length (a .segs)) noSegment) ≡ a .segs
@@ -55,14 +55,14 @@ pub record Came (Q : View → (ℕ → List ℕ) → Type 0) (t : Held) (f : ℕ
   pub also : Q view f
 
 -- what Q says of an append's outcome
-abbrev pub AppendAlso : (View → (ℕ → List ℕ) → Type 0) → (ℕ → List ℕ) → List ℕ → Appending → Type 0
-AppendAlso Q f p (A.refused n) = Unit {0}
-AppendAlso Q f p (appended id a area) = Q a (noted f id p)
+abbrev pub AppendAlso : (View → (ℕ → List ℕ) → Type 0) → (ℕ → List ℕ) → List ℕ → Outcome Left → Type 0
+AppendAlso Q f p (refused n) = Unit {0}
+AppendAlso Q f p (done w) = Q (w .view) (noted f (w .id) p)
 
 -- what Q says of a prune's outcome
-abbrev pub PruneAlso : (View → (ℕ → List ℕ) → Type 0) → (ℕ → List ℕ) → Pruning → Type 0
-PruneAlso Q f (P.refused n) = Unit {0}
-PruneAlso Q f (pruned a area) = Q a f
+abbrev pub PruneAlso : (View → (ℕ → List ℕ) → Type 0) → (ℕ → List ℕ) → Outcome Pruned → Type 0
+PruneAlso Q f (refused n) = Unit {0}
+PruneAlso Q f (done p) = Q (p .log) f
 
 -- a view of which the invariant holds, as the code holds it
 abbrev pub heldOf : View → List ℕ → Held
@@ -83,66 +83,65 @@ module _ (a : View) (area : List ℕ) (f : ℕ → List ℕ) (h : Holds a area f
 
   -- the functions of the code's log are those of the view
   pub append-log : (p : List ℕ) → appendLog (logOf a) area p ≡ appendOf a area p
-  unfolding appendLog
-  append-log p = simp plain (ap (λ (x : View). appendOf x area p) (view-log a))
+  append-log p = append-fits (logOf a) area p (log-fitting (length area) (h .all)) ∙ ap (λ (x : View). appendOf x area p) (view-log a)
 
   -- prune oldest
-  pub oldest-log : (n : ℕ) → oldestLog (logOf a) area n ≡ pruneOldestOf a area n
+  pub oldest-log : (n : ℕ) → oldestLog (logOf a) area n ≡ pruneOldestOf a true area n
   unfolding oldestLog
-  oldest-log n = simp plain (ap (λ (x : View). pruneOldestOf x area n) (view-log a))
+  oldest-log n = simp (log-fitting (length area) (h .all)) (ap (λ (x : View). pruneOldestOf x true area n) (view-log a))
 
   -- prune recent
-  pub recent-log : (n : ℕ) → recentLog (logOf a) area n ≡ pruneRecentOf a area n
+  pub recent-log : (n : ℕ) → recentLog (logOf a) area n ≡ pruneRecentOf a true area n
   unfolding recentLog
-  recent-log n = simp plain (ap (λ (x : View). pruneRecentOf x area n) (view-log a))
+  recent-log n = simp (log-fitting (length area) (h .all)) (ap (λ (x : View). pruneRecentOf x true area n) (view-log a))
 
   module _ (Q : View → (ℕ → List ℕ) → Type 0) (also : Q a f) where
     here : Came Q (heldOf a area) f
     here = record { view = a; packed = refl; holds = h; also = also }
 
-    by-append : (p : List ℕ) (r : Appending) → AppendKeeps f p r → AppendAlso Q f p r
+    by-append : (p : List ℕ) (r : Outcome Left) → AppendKeeps f p r → AppendAlso Q f p r
         → Came Q (afterAppend (heldOf a area) r) (heard f p (appendAnswer (logOf a) r))
-    by-append p (A.refused n) k q = simp (ne-eqb n 0 (λ z. omega (arith, k .0))) here
-    by-append p (appended id b after) k q = record { view = b; packed = refl; holds = k; also = q }
+    by-append p (refused n) k q = simp (ne-eqb n 0 (λ z. omega (arith, k .0))) here
+    by-append p (done w) k q = record { view = w .view; packed = refl; holds = k; also = q }
 
-    by-prune : (r : Pruning) → PruneKeeps f r → PruneAlso Q f r → Came Q (afterPrune (heldOf a area) r) f
-    by-prune (P.refused n) k q = here
-    by-prune (pruned b after) k q = record { view = b; packed = refl; holds = k; also = q }
+    by-prune : (r : Outcome Pruned) → PruneKeeps f r → PruneAlso Q f r → Came Q (afterPrune (heldOf a area) r) f
+    by-prune (refused n) k q = here
+    by-prune (done p) k q = record { view = p .log; packed = refl; holds = k; also = q }
 
     -- an append
     pub came-append : (p : List ℕ) → AppendAlso Q f p (appendOf a area p)
         → Came Q (step (heldOf a area) (append p)) (heardCall f (heldOf a area) (append p))
     came-append p q =
-        subst (λ (r : Appending). Came Q (afterAppend (heldOf a area) r) (heard f p (appendAnswer (logOf a) r))) (sym (append-log p))
+        subst (λ (r : Outcome Left). Came Q (afterAppend (heldOf a area) r) (heard f p (appendAnswer (logOf a) r))) (sym (append-log p))
         (by-append p (appendOf a area p) (append-keeps a area f p h) q)
 
-    came-oldest : (n : ℕ) → PruneAlso Q f (pruneOldestOf a area n) → Came Q (step (heldOf a area) (oldest n)) f
+    came-oldest : (n : ℕ) → PruneAlso Q f (pruneOldestOf a true area n) → Came Q (step (heldOf a area) (oldest n)) f
     came-oldest n q =
-        subst (λ (r : Pruning). Came Q (afterPrune (heldOf a area) r) f) (sym (oldest-log n))
-        (by-prune (pruneOldestOf a area n) (oldest-keeps a area f n h) q)
+        subst (λ (r : Outcome Pruned). Came Q (afterPrune (heldOf a area) r) f) (sym (oldest-log n))
+        (by-prune (pruneOldestOf a true area n) (oldest-keeps a area f n h) q)
 
-    came-recent : (n : ℕ) → PruneAlso Q f (pruneRecentOf a area n) → Came Q (step (heldOf a area) (recent n)) f
+    came-recent : (n : ℕ) → PruneAlso Q f (pruneRecentOf a true area n) → Came Q (step (heldOf a area) (recent n)) f
     came-recent n q =
-        subst (λ (r : Pruning). Came Q (afterPrune (heldOf a area) r) f) (sym (recent-log n))
-        (by-prune (pruneRecentOf a area n) (recent-keeps a area f n h) q)
+        subst (λ (r : Outcome Pruned). Came Q (afterPrune (heldOf a area) r) f) (sym (recent-log n))
+        (by-prune (pruneRecentOf a true area n) (recent-keeps a area f n h) q)
 
 -- any view
 abbrev pub Any : View → (ℕ → List ℕ) → Type 0
 Any a f = Unit {0}
 
-any-append : (f : ℕ → List ℕ) (p : List ℕ) (r : Appending) → AppendAlso Any f p r
-any-append f p (A.refused n) = tt
-any-append f p (appended id a area) = tt
+any-append : (f : ℕ → List ℕ) (p : List ℕ) (r : Outcome Left) → AppendAlso Any f p r
+any-append f p (refused n) = tt
+any-append f p (done w) = tt
 
-any-prune : (f : ℕ → List ℕ) (r : Pruning) → PruneAlso Any f r
-any-prune f (P.refused n) = tt
-any-prune f (pruned a area) = tt
+any-prune : (f : ℕ → List ℕ) (r : Outcome Pruned) → PruneAlso Any f r
+any-prune f (refused n) = tt
+any-prune f (done p) = tt
 
 step-view : (a : View) (area : List ℕ) (f : ℕ → List ℕ) → Holds a area f → (call : Call)
     → Came Any (step (heldOf a area) call) (heardCall f (heldOf a area) call)
 step-view a area f h (append p) = came-append a area f h Any tt p (any-append f p (appendOf a area p))
-step-view a area f h (oldest n) = came-oldest a area f h Any tt n (any-prune f (pruneOldestOf a area n))
-step-view a area f h (recent n) = came-recent a area f h Any tt n (any-prune f (pruneRecentOf a area n))
+step-view a area f h (oldest n) = came-oldest a area f h Any tt n (any-prune f (pruneOldestOf a true area n))
+step-view a area f h (recent n) = came-recent a area f h Any tt n (any-prune f (pruneRecentOf a true area n))
 
 -- a property of what is held follows from that of the view's log
 pub on-view : {Q : View → (ℕ → List ℕ) → Type 0} (R : Held → Type 0) (t : Held) (f : ℕ → List ℕ) (c : Came Q t f)

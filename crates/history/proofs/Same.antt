@@ -10,11 +10,11 @@ use lib.ListN.{length}
 use borrow.Author.Tests.{ltb-true}
 use Rattle.lists.specs.Choice.{pick}
 use Rattle.record.specs.Record.{recordRoom}
-use Rattle.seglog.specs.declared.Segment.{Segment}
-use Rattle.seglog_prune.specs.Prune.{dropOld}
-use Rattle.recovery_walk.proofs.RowWords.{row-dead}
+use Rattle.segment.specs.declared.Segment.{Segment}
+use Rattle.seglog_prune.specs.Drop.{dropOld}
+use Rattle.recovery_walk.proofs.Rows.{row-dead}
 use Rattle.recovery_walk.specs.Rows.{rowOf}
-use Rattle.recovery_walk.specs.Step.{liveOf}
+use Rattle.walk.specs.Judging.{liveOf}
 use Rattle.history.proofs.Chain.{Chain, chain-le}
 use Rattle.history.proofs.Deliver.{live-over, live-under}
 use Rattle.history.proofs.Later.{Grows}

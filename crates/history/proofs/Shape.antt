@@ -14,8 +14,8 @@ use Rattle.lists.proofs.Bools.{both-and}
 use Rattle.seglog.proofs.Fit.{sizes-are}
 use Rattle.seglog.proofs.Slots.{Below, pigeons}
 use Rattle.seglog.specs.Log.{nextOf, chainOf, segOf, endsOf, headOf, View, fitsOf, shapedOf, sizesOf}
-use Rattle.seglog.specs.declared.Segment.{Segment}
-use Rattle.history.specs.Recorded.{recordsFrom}
+use Rattle.segment.specs.declared.Segment.{Segment}
+use Rattle.walk.specs.Records.{recordsFrom}
 use Rattle.history.proofs.Chain.{Chain, chain-ends}
 use Rattle.history.proofs.Invariant.{Live, Holds}
 use Rattle.history.proofs.Records.{from-pages}

@@ -13,11 +13,11 @@ use Rattle.lists.proofs.Splice.{splice-before, splice-after, splice-grow}
 use Rattle.lists.specs.Splice.{part, splice}
 use Rattle.record.proofs.Record.{record-length}
 use Rattle.record.specs.Record.{maxPayload, recordRoom, recordBytes}
-use Rattle.seglog.specs.declared.Segment.{Segment}
-use Rattle.seglog_append.specs.Append.{grownOf}
-use Rattle.seglog_prune.specs.Prune.{imageIn}
+use Rattle.segment.specs.declared.Segment.{Segment}
+use Rattle.seglog_append.specs.Appending.{grownOf}
+use Rattle.segment.specs.Segment.{imageIn}
 use Rattle.history.specs.History.{noted}
-use Rattle.history.specs.Recorded.{recordsFrom}
+use Rattle.walk.specs.Records.{recordsFrom}
 use Rattle.history.proofs.Records.{from-agree, from-more}
 
 -- g's slot begins with the records of its ids below b, and g's size is their length

@@ -8,9 +8,10 @@ use lib.ListN.{length, drop, length-append, length-drop}
 use lib.Seq.{drop-at}
 use Rattle.seglog.specs.Log.{View, logOf}
 use Rattle.seglog.specs.declared.Log.{Log}
-use Rattle.seglog.specs.declared.Segment.{Segment}
-use Rattle.seglog_prune.specs.Prune.{oldestLog, pruned, recentLog, Pruning, pruneAnswer}
-use Rattle.image_rows.specs.declared.ImageRow.{ImageRow}
+use Rattle.segment.specs.declared.Segment.{Segment}
+use Rattle.lists.specs.Outcome.{Outcome}
+use Rattle.seglog_prune.specs.Prune.{oldestLog, pruned, recentLog, Pruned, pruneAnswer}
+use Rattle.segment.specs.declared.ImageRow.{ImageRow}
 use Rattle.recovery.specs.Recovery.{Recovery, recovered}
 use Rattle.history.specs.Demand.{idsIn, Delivers, recovering, prunesTo, AnyOrder, rowsFor, listed, Demand3, earlier}
 use Rattle.history.specs.History.{run, oldest, recent, step, afterPrune, Held, refusalOf, appends, told, lastUnder, begun}
@@ -41,9 +42,9 @@ delivers-views a area z area′ f rows s e index room h d =
     subst (λ (o : Recovery). Delivers (heldOf a area) (heldOf z area′) f s e index o) (sym (d .accepts))
     (record {
       accepts = refl;
-      oldest-accepts = ap (λ (o : Pruning). pruneAnswer (logOf a) o .refusal) old;
+      oldest-accepts = ap (λ (o : Outcome Pruned). pruneAnswer (logOf a) o .refusal) old;
       recent-accepts =
-          ap (λ (x : Held). refusalOf x (recent e)) between ∙ ap (λ (o : Pruning). pruneAnswer (logOf (d .older)) o .refusal) new;
+          ap (λ (x : Held). refusalOf x (recent e)) between ∙ ap (λ (o : Outcome Pruned). pruneAnswer (logOf (d .older)) o .refusal) new;
       log-same = sym (ap (λ (x : Held). x .log) after);
       live-start = d .start-is;
       live-end = d .end-is;

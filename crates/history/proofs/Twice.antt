@@ -8,8 +8,8 @@ use lib.ListN.{drop, length, length-append, length-drop}
 use lib.Seq.{drop-at}
 use Rattle.seglog.specs.Log.{View}
 use Rattle.seglog.specs.declared.Log.{Log}
-use Rattle.seglog.specs.declared.Segment.{Segment}
-use Rattle.image_rows.specs.declared.ImageRow.{ImageRow}
+use Rattle.segment.specs.declared.Segment.{Segment}
+use Rattle.segment.specs.declared.ImageRow.{ImageRow}
 use Rattle.recovery.specs.Recovery.{Recovery, recovered, recoveryIndex, recoveryArea, recoveryOf, recoveryAnswer}
 use Rattle.history.specs.Corollaries.{SameTwice, afterRecovery, RecoveringTwice, RecoveringTheRecovered}
 use Rattle.history.specs.Demand.{AnyOrder, rowsFor, listed, idsIn, recovering, earlier}

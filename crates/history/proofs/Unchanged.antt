@@ -1,12 +1,14 @@
 -- The later data changes nothing: the proof of specs/Corollaries.antt's statement.
 -- Assumes nothing.
+use mathlib.Core.Bool.{true}
 use mathlib.Core.List.{List, []}
 use mathlib.Core.Path.{_≡_, sym, _∙_, ap}
 use Prim.Native.Nat.{ℕ, _<_, _≤_, _*_}
 use lib.ListN.{length}
 use Rattle.seglog.specs.Log.{View}
-use Rattle.seglog_prune.specs.Prune.{pruned, pruneRecentOf}
-use Rattle.image_rows.specs.declared.ImageRow.{ImageRow}
+use Rattle.seglog_prune.specs.Prune.{pruneRecentOf}
+use Rattle.seglog_prune.proofs.Decide.{pruned-same}
+use Rattle.segment.specs.declared.ImageRow.{ImageRow}
 use Rattle.recovery.specs.Recovery.{recovered, recoveryAnswer, recoveryIndex}
 use Rattle.history.specs.Corollaries.{SameAsEarlier, LaterChangesNothing}
 use Rattle.history.specs.Demand.{AnyOrder, rowsFor, listed, idsIn, recovering, earlier}
@@ -21,10 +23,10 @@ pub two-same : (a : View) (area : List ℕ) (z z₀ : View) (area′ area₀ : L
     (d : Brings a area z area′ f rows s e room) (d₀ : Brings a area z₀ area₀ f rows₀ s e room₀)
     → (d .log ≡ d₀ .log) × (d .words ≡ d₀ .words)
 two-same a area z z₀ area′ area₀ f rows rows₀ s e room room₀ d d₀ =
-    let first : pruned (d .older) area ≡ pruned (d₀ .older) area = sym (d .first) ∙ d₀ .first in
-    let old : d .older ≡ d₀ .older = cc in
-    let new : pruned (d .log) area ≡ pruned (d₀ .log) area = sym (d .then) ∙ ap (λ (x : View). pruneRecentOf x area e) old ∙ d₀ .then in
-    (cc, d .same ∙ sym (d₀ .same))
+    let old : d .older ≡ d₀ .older = pruned-same _ _ area area (sym (d .first) ∙ d₀ .first) in (
+      pruned-same _ _ area area (sym (d .then) ∙ ap (λ (x : View). pruneRecentOf x true area e) old ∙ d₀ .then),
+      d .same ∙ sym (d₀ .same),
+    )
 
 same-held : (t : Held) (f : ℕ → List ℕ) → Came Any t f → (further : List (List ℕ)) (s e : ℕ) (rows rows₀ : List ImageRow) (index : List ℕ)
     → 0 < s → s ≤ e → t .log .start ≤ s → e ≤ t .log .end → AnyOrder rows (rowsFor (listed (run t (appends further) .log)))

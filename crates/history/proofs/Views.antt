@@ -10,17 +10,23 @@ use borrow.Author.Tests.{lt-ltb, le-ltb, le-leb, eq-eqb, ne-eqb}
 use Rattle.seglog.proofs.View.{front-snoc, head-snoc}
 use Rattle.seglog.specs.Log.{View, logOf, frontOf, headOf, fittingOf}
 use Rattle.seglog.specs.New.{roomyOf}
-use Rattle.seglog.specs.declared.Segment.{Segment}
-use Rattle.seglog_prune.specs.Prune.{pruneOldestOf, pruned, pruneRecentOf, startedAt, dropOld, dropNew}
-use Rattle.recovery_walk.proofs.Count.{walk-counts}
-use Rattle.recovery_walk.specs.Images.{startOf, images}
+use Rattle.segment.specs.declared.Segment.{Segment}
+use Rattle.seglog_prune.specs.Drop.{dropOld, dropNew}
+use Rattle.seglog_prune.specs.Prune.{pruneOldestOf, pruned, pruneRecentOf, startedAt}
+use Rattle.seglog_prune.proofs.Decide.{Inner, prune-passes}
+use Rattle.walk.specs.Judging.{maxImage, startOf}
+use Rattle.recovery_walk.specs.Images.{walked, images}
 use Rattle.recovery_walk.specs.Rows.{rowsAll, penOf}
-use Rattle.recovery_walk.specs.Scan.{scanOf, judged}
-use Rattle.image_rows.specs.declared.ImageRow.{ImageRow}
+use Rattle.recovery_walk.specs.Scan.{scanOf, judged, liveCount}
+use Rattle.segment.specs.declared.ImageRow.{ImageRow}
 use Rattle.image_rows.specs.ImageRows.{sortRows, rowsFit, lowestZero, oneApart}
-use Rattle.recovery.specs.Recovery.{recoveryOf, recovered, keptOf, closedAt, outcomeOf, oneZero}
+use Rattle.lists.specs.Outcome.{kept}
+use Rattle.recovery.specs.Recovery.{Restored, recoveryOf, recovered, keptOf, outcomeOf, oneZero}
+use Rattle.recovery.proofs.Laws.{recovered-rows}
+use Rattle.seglog.proofs.Fit.{sizes-are}
+use Rattle.segment.specs.Segment.{endedAt}
 use Rattle.history.specs.Demand.{idsIn, rowsFor, AnyOrder}
-use Rattle.history.specs.Recorded.{recordsFrom}
+use Rattle.walk.specs.Records.{recordsFrom}
 use Rattle.history.proofs.Chain.{Chain}
 use Rattle.history.proofs.Deliver.{delivered, items, deliver-chain, live-items, items-agree}
 use Rattle.history.proofs.Invariant.{Holds, some-live}
@@ -28,10 +34,8 @@ use Rattle.history.proofs.Kept.{Cutting, cut-all}
 use Rattle.history.proofs.Later.{After, first-same, Grows, ended-grows}
 use Rattle.history.proofs.OwnRows.{has-good, rising-rows, length-rows, inside-rows, apart-rows, lowest-rows, next-rows}
 use Rattle.history.proofs.Prunes.{
-  Inner,
   live-low,
   oldest-holds,
-  prune-inner,
   New,
   closedBy,
   at-new,
@@ -42,12 +46,12 @@ use Rattle.history.proofs.Prunes.{
 use Rattle.history.proofs.Records.{from-agree, from-front, splice-whole}
 use Rattle.history.proofs.Runs.{log-fitting}
 use Rattle.history.proofs.Same.{chain-same, old-rows}
-use Rattle.history.proofs.Scans.{Seen, start-seen, Through, through, rowsChain, rows-through}
+use Rattle.history.proofs.Scans.{Has, Seen, start-seen, Through, through, rowsChain, rows-through}
 use Rattle.history.proofs.Shape.{holds-fits, holds-few, sizes-few}
 use Rattle.history.proofs.Slots.{Stored}
-use Rattle.history.proofs.Sorts.{sort-any, length-any, fit-any, apart-any}
+use Rattle.lists.proofs.AnyOrder.{any-length}
+use Rattle.history.proofs.Sorts.{sort-any, fit-any, apart-any}
 use Rattle.recovery.specs.Recovery as R
-use Rattle.recovery_walk.specs.Images as Walk
 
 -- what recovering s to e from the later log gives, against the earlier one; f has what was last appended up to it
 pub record Brings (a : View) (area : List ℕ) (z : View) (area′ : List ℕ) (f : ℕ → List ℕ) (rows : List ImageRow)
@@ -62,8 +66,8 @@ pub record Brings (a : View) (area : List ℕ) (z : View) (area′ : List ℕ) (
   pub payloads : delivered (logOf log) area′ words ≡ items f s (idsIn s e)
   -- the log is the one that pruning at the earlier moment leaves
   pub older : View
-  pub first : pruneOldestOf a area s ≡ pruned older area
-  pub then : pruneRecentOf older area e ≡ pruned log area
+  pub first : pruneOldestOf a true area s ≡ pruned older area
+  pub then : pruneRecentOf older true area e ≡ pruned log area
   -- the index words are those that the earlier images give
   pub same : words ≡ rowsAll area (a .c) s e (rowsFor (a .segs)) penOf
   -- the invariant holds of both logs over the earlier area
@@ -75,6 +79,18 @@ pub record Brings (a : View) (area : List ℕ) (z : View) (area′ : List ℕ) (
   pub older-end : older .end ≡ a .end
   pub start-is : log .start ≡ s
   pub end-is : log .end ≡ e
+  -- the later log's segment whose image the last one is cut from, and that no padding is missing there
+  pub cut-from : Segment
+  pub cut-listed : Has cut-from (z .segs)
+  pub cut-slot : headOf (log .segs) .slot ≡ cut-from .slot
+  pub cut-whole : headOf (log .segs) .size ≤ cut-from .size
+
+-- two accepted recoveries that are equal leave the same log and the same words
+pub recovered-log : {a b : View} {x y ws us : List ℕ} → recovered a x ws ≡ recovered b y us → a ≡ b
+recovered-log {a} q = ap (kept a (λ (r : Restored). r .log)) q
+
+pub recovered-words : {a b : View} {x y ws us : List ℕ} → recovered a x ws ≡ recovered b y us → ws ≡ us
+recovered-words {ws = ws} q = ap (kept ws (λ (r : Restored). r .words)) q
 
 -- ---- the theorem
 
@@ -89,8 +105,8 @@ module _ (a : View) (area : List ℕ) (z : View) (area′ : List ℕ) (f f′ : 
   some : 0 < length (a .segs)
   some = some-live (a .segs) (a .start) (a .end) (h .j) (omega arith) (h .live)
 
-  inner : Inner a s
-  inner = record { some = some; above = above; upper = omega arith; lower = from }
+  inner : Inner a true s
+  inner = record { good = refl; some = some; above = above; upper = omega arith; lower = from }
 
   low : h .b ≤ s
   low = omega (arith, live-low Gt (a .segs) (h .i) (h .b) (a .start) (a .end) (h .j) (a .end + 1) some (h .chain) (h .live))
@@ -111,13 +127,14 @@ module _ (a : View) (area : List ℕ) (z : View) (area′ : List ℕ) (f f′ : 
   old-holds : Holds older area f
   old-holds = oldest-holds a area f s h inner
 
-  prunes-old : pruneOldestOf a area s ≡ pruned older area
+  prunes-old : pruneOldestOf a true area s ≡ pruned older area
   unfolding pruneOldestOf
-  prunes-old = prune-inner a area s (pruned older area) (holds-fits a area f h) inner
+  prunes-old = prune-passes a true area s (pruned older area) inner
 
-  inner′ : Inner older e
+  inner′ : Inner older true e
   inner′ =
       record {
+        good = refl;
         some = some-live (dropOld s (a .segs)) s (a .end) (old-holds .j) (omega arith) (old-holds .live);
         above = omega arith;
         upper = to;
@@ -162,10 +179,10 @@ module _ (a : View) (area : List ℕ) (z : View) (area′ : List ℕ) (f f′ : 
         segs = cutting .hs ++ (closedBy f (cutting .g) e ∷ []);
       })
 
-  prunes-new : pruneRecentOf older area e ≡ pruned log area
+  prunes-new : pruneRecentOf older true area e ≡ pruned log area
   unfolding pruneRecentOf cut-found
   prunes-new =
-      prune-inner older area e _ (holds-fits older area f old-holds) inner′ ∙ recent-is older area f e old-holds inner′
+      prune-passes older true area e _ inner′ ∙ recent-is older area f e old-holds inner′
       ∙ ap (λ (x : View). pruned x area) ended-is
 
   log-holds : Holds log area f
@@ -178,18 +195,24 @@ module _ (a : View) (area : List ℕ) (z : View) (area′ : List ℕ) (f f′ : 
 
   -- ---- the walk at the later moment
 
+  slots : a .c ≤ maxImage
+  slots = sizes-are (a .k) (a .c) (a .m) (h .sizes) .at-most
+
+  slots′ : z .c ≤ maxImage
+  slots′ = sizes-are (z .k) (z .c) (z .m) (h′ .sizes) .at-most
+
   seen : Seen s e (h′ .b) startOf
   seen = start-seen s e (h′ .b) order (h′ .low) low′
 
   walk : Through area′ f′ (z .k) (z .c) s e order (z .segs) (h′ .b) (z .end + 1) startOf
-  walk = through area′ f′ (z .k) (z .c) s e order (z .segs) (h′ .i) (h′ .b) (h′ .j) (z .end + 1) startOf (h′ .low) (h′ .chain) seen
+  walk = through area′ f′ (z .k) (z .c) s e order slots′ (z .segs) (h′ .i) (h′ .b) (h′ .j) (z .end + 1) startOf (h′ .low) (h′ .chain) seen
 
   abbrev words : List ℕ
   words = rowsAll area′ (z .c) s e (rowsFor (z .segs)) penOf
 
   words-are : words ≡ rowsChain area′ f′ (z .k) (z .c) s e order (z .segs)
   words-are =
-      rows-through area′ f′ (z .k) (z .c) s e order (z .segs) (h′ .i) (h′ .b) (h′ .j) (z .end + 1) startOf [] (h′ .low) (h′ .chain) seen
+      rows-through area′ f′ (z .k) (z .c) s e order slots′ (z .segs) (h′ .i) (h′ .b) (h′ .j) (z .end + 1) startOf [] (h′ .low) (h′ .chain) seen
 
   -- the rows are those of the earlier images
   rows-same : words ≡ rowsAll area (a .c) s e (rowsFor (a .segs)) penOf
@@ -197,7 +220,7 @@ module _ (a : View) (area : List ℕ) (z : View) (area′ : List ℕ) (f f′ : 
       words-are
       ∙ chain-same s e Gt Gu area area′ f f′ (a .k) (a .c) (z .k) (z .c) order (a .segs) (z .segs) (h .i) (h .b) (h .j) (a .end + 1) (h′ .i)
       (h′ .b) (h′ .j) (z .end + 1) same-first (omega arith) (h .chain) (h′ .chain) (w .grows) (λ i l. w .same i (omega arith))
-      ∙ sym (rows-through area f (a .k) (a .c) s e order (a .segs) (h .i) (h .b) (h .j) (a .end + 1) startOf [] (h .low) (h .chain)
+      ∙ sym (rows-through area f (a .k) (a .c) s e order slots (a .segs) (h .i) (h .b) (h .j) (a .end + 1) startOf [] (h .low) (h .chain)
       (start-seen s e (h .b) order (h .low) low))
 
   -- and those of the log that comes back
@@ -212,7 +235,7 @@ module _ (a : View) (area : List ℕ) (z : View) (area′ : List ℕ) (f f′ : 
       subst (λ (gs : List Segment). Grows gs (dropOld s (a .segs))) (ap (λ (x : View). x .segs) ended-is)
       (subst (λ (ys : List Segment). Grows (cut-found .hs ++ (closedBy f (cut-found .g) e ∷ [])) ys) (sym (cut-found .is))
       (ended-grows f (cut-found .hs) (cut-found .rest) (cut-found .g) e (cut-found .high))) in
-      rows-through area f (a .k) (a .c) s e order (a .segs) (h .i) (h .b) (h .j) (a .end + 1) startOf [] (h .low) (h .chain)
+      rows-through area f (a .k) (a .c) s e order slots (a .segs) (h .i) (h .b) (h .j) (a .end + 1) startOf [] (h .low) (h .chain)
       (start-seen s e (h .b) order (h .low) low)
       ∙ sym (old-rows s e area f (a .k) (a .c) order Gt (a .segs) (h .i) (h .b) (h .j) (a .end + 1) (h .chain))
       ∙ chain-same s e Gl Gt area area f f (log .k) (log .c) (a .k) (a .c) order (log .segs) (dropOld s (a .segs)) (lh .i) (lh .b) (lh .j)
@@ -221,15 +244,8 @@ module _ (a : View) (area : List ℕ) (z : View) (area′ : List ℕ) (f f′ : 
       (first-same Gl Gt (log .segs) (dropOld s (a .segs)) (lh .i) (lh .b) (lh .j) (e + 1) (old-holds .i) (old-holds .b) (old-holds .j)
       (a .end + 1)
       some-kept grown (lh .chain) (old-holds .chain)) (omega arith) (lh .chain) (old-holds .chain) grown (λ i l. refl)
-      ∙ sym (rows-through area f (log .k) (log .c) s e order (log .segs) (lh .i) (lh .b) (lh .j) (e + 1) startOf [] (lh .low) (lh .chain)
+      ∙ sym (rows-through area f (log .k) (log .c) s e order slots′ (log .segs) (lh .i) (lh .b) (lh .j) (e + 1) startOf [] (lh .low) (lh .chain)
       (start-seen s e (lh .b) order (lh .low) lower))
-
-  counted : walk .d .live ≡ idsIn s e
-  counted = walk .seen .live ∙ omega (arith, w .end)
-
-  word-count : length words ≡ 4 * idsIn s e
-  word-count =
-      omega (arith, walk-counts area′ (z .c) s e (rowsFor (z .segs)) false startOf (walk .d) (z .segs) [] (walk .is), counted)
 
   items-are : delivered (logOf log) area′ words ≡ items f s (idsIn s e)
   items-are =
@@ -244,29 +260,29 @@ module _ (a : View) (area : List ℕ) (z : View) (area′ : List ℕ) (f f′ : 
   head-stored =
       has-good area′ f′ (z .k) (z .c) (cutting .y) (z .segs) (h′ .i) (h′ .b) (h′ .j) (z .end + 1) (h′ .chain) (cutting .has)
 
-  head-is : walk .d .head ≡ length (recordsFrom f′ (cutting .y .min) (e + 1 - cutting .y .min))
+  head-is : walk .d .«end_of_e» ≡ length (recordsFrom f′ (cutting .y .min) (e + 1 - cutting .y .min))
   head-is = walk .head (cutting .y) (cutting .has) (cutting .low) (cutting .high)
 
-  head-same : walk .d .head ≡ length (recordsFrom f (cutting .g .min) (e + 1 - cutting .g .min))
+  head-same : walk .d .«end_of_e» ≡ length (recordsFrom f (cutting .g .min) (e + 1 - cutting .g .min))
   head-same =
       head-is
       ∙ ap length (from-agree f′ f (cutting .y .min) (e + 1 - cutting .y .min) (λ i l u. w .same i (omega (arith, cutting .low))))
       ∙ ap (λ (x : ℕ). length (recordsFrom f x (e + 1 - x))) (sym (cutting .more .min))
 
-  whole : walk .d .head ≤ cutting .y .size
+  whole : walk .d .«end_of_e» ≤ cutting .y .size
   whole =
       let y : Segment = cutting .y in
       let fit = from-front f′ (y .min) (e + 1 - y .min) (y .max + 1 - y .min) (omega (arith, cutting .high)) in
       omega (arith, fit .0, head-is, head-stored .long)
 
-  closed : R.closedOf (z .k) (z .c) (z .m) area′ s e (walk .d .head) words (frontOf (keptOf s e (z .segs))) (headOf (keptOf s e (z .segs)))
+  closed : R.closedOf (z .k) (z .c) (z .m) area′ s e (walk .d .«end_of_e») words (frontOf (keptOf s e (z .segs))) (headOf (keptOf s e (z .segs)))
       ≡ recovered log area′ words
   closed =
       let y : Segment = cutting .y in
       let kept : List Segment = keptOf s e (z .segs) in
       let front : frontOf kept ≡ cutting .hs = ap (λ (l : List Segment). frontOf l) (cutting .kept) ∙ front-snoc (cutting .hs) y in
       let head : headOf kept ≡ y = ap (λ (l : List Segment). headOf l) (cutting .kept) ∙ head-snoc (cutting .hs) y in
-      let last : closedAt y e (walk .d .head) ≡ closedBy f (cutting .g) e =
+      let last : endedAt y e (walk .d .«end_of_e») ≡ closedBy f (cutting .g) e =
       λ i. record {
         id = sym (cutting .more .id) i;
         slot = sym (cutting .more .slot) i;
@@ -274,10 +290,10 @@ module _ (a : View) (area : List ℕ) (z : View) (area′ : List ℕ) (f f′ : 
         min = sym (cutting .more .min) i;
         max = e;
       } in
-      ap (λ (l : List Segment). R.closedOf (z .k) (z .c) (z .m) area′ s e (walk .d .head) words l (headOf kept)) front
-      ∙ ap (λ (x : Segment). R.closedOf (z .k) (z .c) (z .m) area′ s e (walk .d .head) words (cutting .hs) x) head
+      ap (λ (l : List Segment). R.closedOf (z .k) (z .c) (z .m) area′ s e (walk .d .«end_of_e») words l (headOf kept)) front
+      ∙ ap (λ (x : Segment). R.closedOf (z .k) (z .c) (z .m) area′ s e (walk .d .«end_of_e») words (cutting .hs) x) head
       ∙ (λ i. recovered (record { k = z .k; c = z .c; m = z .m; start = s; end = e; segs = cutting .hs ++ (last i ∷ []) })
-      (splice-whole (y .slot * z .c + y .size) (walk .d .head) (y .size) area′ whole i) words)
+      (splice-whole (y .slot * z .c + y .size) (walk .d .«end_of_e») (y .size) area′ whole i) words)
 
   -- ---- the tests pass
 
@@ -285,13 +301,13 @@ module _ (a : View) (area : List ℕ) (z : View) (area′ : List ℕ) (f f′ : 
     sorted : sortRows rows ≡ rowsFor (z .segs)
     sorted = sort-any (h′ .i) rows (rowsFor (z .segs)) any (rising-rows Gu (z .segs) (h′ .i) (h′ .b) (h′ .j) (z .end + 1) (h′ .chain))
 
-    scanned : scanOf area′ (z .c) s e (sortRows rows) room ≡ Walk.walked (walk .d) (z .segs)
+    scanned : scanOf area′ (z .c) s e (sortRows rows) room ≡ walked (walk .d) (z .segs)
     unfolding scanOf judged
     scanned =
         let b = walk .seen .start ∙ lt-ltb s (z .end + 1) (omega (arith, w .end)) in
         let x = walk .seen .end ∙ lt-ltb e (z .end + 1) (omega (arith, w .end)) in
-        ap (λ (l : List ImageRow). judged room (images area′ (z .c) s e l false startOf)) sorted ∙ ap (judged room) (walk .is)
-        ∙ simp (b, x, le-ltb room (4 * walk .d .live) (omega (arith, counted)))
+        ap (λ (l : List ImageRow). judged s e room (images area′ (z .c) s e l startOf)) sorted ∙ ap (judged s e room) (walk .is)
+        ∙ simp (b, x, le-ltb room (4 * liveCount s e) enough)
 
     fit : rowsFit (z .k) (z .c) rows ≡ true
     unfolding rowsFit
@@ -299,7 +315,7 @@ module _ (a : View) (area : List ℕ) (z : View) (area′ : List ℕ) (f f′ : 
         let few : length rows ≤ 64 =
         omega (
           arith,
-          length-any rows (rowsFor (z .segs)) any,
+          any-length rows (rowsFor (z .segs)) any,
           length-rows (z .segs),
           holds-few z area′ f′ h′,
           sizes-few (z .k) (z .c) (z .m) (h′ .sizes),
@@ -330,16 +346,21 @@ module _ (a : View) (area : List ℕ) (z : View) (area′ : List ℕ) (f f′ : 
           two,
         )
 
+    accepted : recoveryOf (z .k) (z .c) (z .m) area′ rows s e room ≡ recovered log area′ words
+    accepted =
+        in-front ∙ ap (outcomeOf (z .k) (z .c) (z .m) area′ s e (sortRows rows)) scanned
+        ∙ ap (λ (l : List ImageRow). R.closedOf (z .k) (z .c) (z .m) area′ s e (walk .d .«end_of_e») (rowsAll area′ (z .c) s e l penOf)
+        (frontOf (keptOf s e (z .segs))) (headOf (keptOf s e (z .segs)))) sorted ∙ closed
+
     -- demand 3, by views
     pub brings : Brings a area z area′ f rows s e room
     brings =
+        let last : headOf (log .segs) ≡ closedBy f (cutting .g) e = head-snoc (cutting .hs) (closedBy f (cutting .g) e) in
         record {
           log = log;
           words = words;
-          accepts = in-front ∙ ap (outcomeOf (z .k) (z .c) (z .m) area′ s e (sortRows rows)) scanned
-              ∙ ap (λ (l : List ImageRow). R.closedOf (z .k) (z .c) (z .m) area′ s e (walk .d .head) (rowsAll area′ (z .c) s e l penOf)
-              (frontOf (keptOf s e (z .segs))) (headOf (keptOf s e (z .segs)))) sorted ∙ closed;
-          count = word-count;
+          accepts = accepted;
+          count = recovered-rows (z .k) (z .c) (z .m) area′ rows s e room log area′ words (λ y. omega arith) accepted .count;
           payloads = items-are;
           older = older;
           first = prunes-old;
@@ -351,4 +372,8 @@ module _ (a : View) (area : List ℕ) (z : View) (area′ : List ℕ) (f f′ : 
           older-end = refl;
           start-is = refl;
           end-is = refl;
+          cut-from = cutting .y;
+          cut-listed = cutting .has;
+          cut-slot = ap (λ (x : Segment). x .slot) last ∙ cutting .more .slot;
+          cut-whole = omega (arith, ap (λ (x : Segment). x .size) last, head-same, whole);
         }

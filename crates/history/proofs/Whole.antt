@@ -11,21 +11,25 @@ use borrow.Author.Tests.{le-ltb, eq-eqb, eqb-true, eqb-false}
 use Rattle.lists.proofs.Cases.{by-test}
 use Rattle.seglog.specs.Log.{View, logOf, emptyOf, sizesOf}
 use Rattle.seglog.specs.New.{roomyOf}
-use Rattle.seglog.specs.declared.Segment.{Segment}
-use Rattle.seglog_prune.specs.Prune.{dropOld, dropNew, keepAt, pruneOldestOf, pruned, startedAt, pruneRecentOf}
-use Rattle.image_rows.specs.declared.ImageRow.{ImageRow}
-use Rattle.image_rows.specs.ImageRows.{rowsFit, rowsInside, rowsApart, sortRows, lowestZero, oneApart}
+use Rattle.segment.specs.declared.Segment.{Segment}
+use Rattle.seglog_prune.specs.Drop.{dropOld, dropNew, keepAt}
+use Rattle.seglog_prune.specs.Prune.{pruneOldestOf, pruned, startedAt, pruneRecentOf}
+use Rattle.segment.specs.declared.ImageRow.{ImageRow}
+use Rattle.lists.specs.Each.{all, linked}
+use Rattle.lists.specs.Distinct.{distinct}
+use Rattle.lists.specs.Sort.{sort}
+use Rattle.image_rows.specs.ImageRows.{rowsFit, lowestZero}
 use Rattle.recovery.specs.Recovery.{recoveryAnswer, recoveryOf, recovered, oneZero}
 use Rattle.history.specs.Corollaries.{liveCount, WholeRangeGivesTheLog}
 use Rattle.history.specs.Demand.{AnyOrder, rowsFor, idsIn, recovering, listed}
 use Rattle.history.specs.History.{Held, lastUnder, begun}
-use Rattle.history.specs.Recorded.{recordsFrom}
+use Rattle.walk.specs.Records.{recordsFrom}
 use Rattle.history.proofs.Chain.{Chain, chain-le, chain-snoc}
 use Rattle.history.proofs.Invariant.{Live, Holds, some-live}
 use Rattle.history.proofs.Later.{after-refl}
-use Rattle.history.proofs.Prunes.{live-low, prune-inner, Inner, at-new, closedBy, recent-is}
+use Rattle.seglog_prune.proofs.Decide.{Inner, prune-passes, pruned-same}
+use Rattle.history.proofs.Prunes.{live-low, at-new, closedBy, recent-is}
 use Rattle.history.proofs.Runs.{Any, heldOf, listed-log, Came, runs-keep, on-view}
-use Rattle.history.proofs.Shape.{holds-fits}
 use Rattle.history.proofs.Slots.{Stored}
 use Rattle.history.proofs.Views.{brings, Brings}
 
@@ -69,18 +73,18 @@ module _ (a : View) (area : List ℕ) (f : ℕ → List ℕ) (h : Holds a area f
         under (g ∷ gs) s c l = omega (arith, l .1, chain-le P gs (h .i + 1) (g .max + 1) (h .j) (a .end + 1) (c .1))
 
     -- prune oldest to the live start leaves the log
-    pub oldest-whole : pruneOldestOf a area (a .start) ≡ pruned a area
+    pub oldest-whole : pruneOldestOf a true area (a .start) ≡ pruned a area
     unfolding pruneOldestOf
     oldest-whole =
-        prune-inner a area (a .start) (pruned (startedAt a (a .start) (dropOld (a .start) (a .segs))) area) (holds-fits a area f h)
-        (record { some = some; above = start-above; upper = start-order; lower = omega arith })
+        prune-passes a true area (a .start) (pruned (startedAt a (a .start) (dropOld (a .start) (a .segs))) area)
+        (record { good = refl; some = some; above = start-above; upper = start-order; lower = omega arith })
         ∙ ap (λ (gs : List Segment). pruned (startedAt a (a .start) gs) area) (old-none (a .start) (a .end) (h .j) (a .segs) (h .live))
 
     -- prune recent to the live end leaves the log
-    pub recent-whole : pruneRecentOf a area (a .end) ≡ pruned a area
+    pub recent-whole : pruneRecentOf a true area (a .end) ≡ pruned a area
     unfolding pruneRecentOf
     recent-whole =
-        let w : Inner a (a .end) = record { some = some; above = live; upper = omega arith; lower = start-order } in
+        let w : Inner a true (a .end) = record { good = refl; some = some; above = live; upper = omega arith; lower = start-order } in
         let t = at-new a area f (a .end) h w in
         let split : t .hs ++ (t .g ∷ []) ≡ a .segs = sym (t .kept) ∙ new-all P (a .segs) (h .i) (h .b) (a .end) (h .j) (h .chain) in
         let ends =
@@ -91,7 +95,7 @@ module _ (a : View) (area : List ℕ) (f : ℕ → List ℕ) (h : Holds a area f
         sym (t .good .long ∙ ap (λ (n : ℕ). length (recordsFrom f (t .g .min) (n + 1 - t .g .min))) max) in
         let same : closedBy f (t .g) (a .end) ≡ t .g =
         λ i. record { id = t .g .id; slot = t .g .slot; size = long i; min = t .g .min; max = sym max i } in
-        prune-inner a area (a .end) _ (holds-fits a area f h) w ∙ recent-is a area f (a .end) h w
+        prune-passes a true area (a .end) _ w ∙ recent-is a area f (a .end) h w
         ∙ ap (λ (g : Segment). pruned (startedAt a (a .start) (t .hs ++ (g ∷ []))) area) same
         ∙ ap (λ (gs : List Segment). pruned (startedAt a (a .start) gs) area) split
 
@@ -106,12 +110,10 @@ module _ (a : View) (area : List ℕ) (f : ℕ → List ℕ) (h : Holds a area f
   pub whole-log : 0 < a .end → (z : View) (area′ : List ℕ) (rows : List ImageRow) (s e room : ℕ) → a .start ≡ s → a .end ≡ e
       → (d : Brings a area z area′ f rows s e room) → d .log ≡ a
   whole-log live z area′ rows s e room p q d =
-      let first : pruned a area ≡ pruned (d .older) area =
-      sym (oldest-whole live) ∙ ap (pruneOldestOf a area) p ∙ d .first in
-      let old : a ≡ d .older = cc in
-      let then : pruned a area ≡ pruned (d .log) area =
-      sym (recent-whole live) ∙ ap (pruneRecentOf a area) q ∙ ap (λ (x : View). pruneRecentOf x area e) old ∙ d .then in
-      cc
+      let old : a ≡ d .older =
+      pruned-same _ _ area area (sym (oldest-whole live) ∙ ap (pruneOldestOf a true area) p ∙ d .first) in
+      pruned-same _ _ area area
+      (sym (d .then) ∙ ap (λ (x : View). pruneRecentOf x true area e) (sym old) ∙ ap (pruneRecentOf a true area) (sym q) ∙ recent-whole live)
 
   whole-some : 0 < a .end → (rows : List ImageRow) → AnyOrder rows (rowsFor (a .segs)) → (index : List ℕ)
       → 4 * idsIn (a .start) (a .end) ≤ length index
@@ -142,7 +144,7 @@ no-rows (r ∷ rs) any =
 
 recover-empty : (k c m : ℕ) (area : List ℕ) (room : ℕ) → sizesOf k c m ≡ true → length area ≡ k * c
     → recoveryOf k c m area [] 0 0 room ≡ recovered (emptyOf k c m) area []
-unfolding recoveryOf roomyOf oneZero rowsFit rowsInside rowsApart sortRows lowestZero oneApart
+unfolding recoveryOf roomyOf oneZero rowsFit all distinct sort lowestZero linked
 recover-empty k c m area room sizes all = simp (sizes, eq-eqb (length area) (k * c) all)
 
 whole-none : (k c m : ℕ) (area : List ℕ) → sizesOf k c m ≡ true → length area ≡ k * c → (rows : List ImageRow) → AnyOrder rows []

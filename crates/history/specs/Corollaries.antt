@@ -9,7 +9,7 @@ use lib.Dec.{eqb}
 use Rattle.lists.specs.Choice.{pick}
 use Rattle.seglog.specs.declared.Log.{Log}
 use Rattle.seglog.specs.New.{newOf}
-use Rattle.image_rows.specs.declared.ImageRow.{ImageRow}
+use Rattle.segment.specs.declared.ImageRow.{ImageRow}
 use Rattle.recovery.specs.Recovery.{Recovery, recoveryAnswer, recoveryArea, recoveryIndex}
 use Rattle.history.specs.History.{Call, oldest, recent, Held, step, refusalOf, run, told}
 use Rattle.history.specs.Demand.{AnyOrder, rowsFor, listed, recovering, idsIn, prunesTo, questionAt, payloadAt, earlier, later, Asked}

@@ -5,14 +5,13 @@ use mathlib.Core.Path.{_≡_}
 use mathlib.Core.List.{List, [], _∷_, _++_}
 use Prim.Native.Nat.{ℕ, _+_, _-_, _*_, _≤_, _<_}
 use lib.ListN.{length, getD, take, drop}
-use Rattle.seglog.specs.declared.Segment.{Segment}
+pub use Rattle.lists.specs.AnyOrder.{AnyOrder}
+use Rattle.segment.specs.declared.Segment.{Segment}
 use Rattle.seglog.specs.declared.Log.{Log}
 use Rattle.seglog.specs.New.{newOf}
-use Rattle.image_rows.specs.declared.ImageRow.{ImageRow}
+use Rattle.segment.specs.declared.ImageRow.{ImageRow}
 use Rattle.recovery.specs.Recovery.{Recovery, recoveryOf, recoveryAnswer, recoveryArea, recoveryIndex}
-use Rattle.payload.specs.declared.RowAnswer.{RowAnswer}
-use Rattle.payload.specs.declared.RowAnswer.the-variants.{Good}
-use Rattle.payload.specs.Payload.{rowQuestion, payloadOf}
+use Rattle.payload.specs.Row.{rowQuestion, payloadOf}
 use Rattle.history.specs.History.{Call, oldest, recent, Held, begun, step, run, refusalOf, appends, lastUnder}
 
 -- ---- the image rows of a log
@@ -30,18 +29,6 @@ rowsFor (g ∷ gs) = rowFor g ∷ rowsFor gs
 abbrev pub listed : Log → List Segment
 listed l = take (l .count) (l .segs)
 
--- x stands somewhere in t, and without it t is as R says
-pub record Placed (R : List ImageRow → Type 0) (x : ImageRow) (t : List ImageRow) : Type 0 where
-  pub before : List ImageRow
-  pub behind : List ImageRow
-  pub whole : t ≡ before ++ (x ∷ behind)
-  pub others : R (before ++ behind)
-
--- l has the rows of t, each as often, in any order
-abbrev pub AnyOrder : List ImageRow → List ImageRow → Type 0
-AnyOrder [] t = t ≡ []
-AnyOrder (x ∷ l) t = Placed (AnyOrder l) x t
-
 -- ---- recovery from what is held
 
 -- recovering s..e from rows over what is held, with its K, C and M, and an index
@@ -52,8 +39,8 @@ recovering u rows s e index = recoveryOf (u .log .k) (u .log .c) (u .log .m) (u 
 abbrev pub rowWord : List ℕ → ℕ → ℕ → ℕ
 rowWord index i j = getD index (4 * i + j) 0
 
--- the row question for row i of an index
-abbrev pub questionAt : Log → List ℕ → List ℕ → ℕ → RowAnswer
+-- the number of the row question for row i of an index
+abbrev pub questionAt : Log → List ℕ → List ℕ → ℕ → ℕ
 questionAt l area index i = rowQuestion l area (rowWord index i 1) (rowWord index i 2) (rowWord index i 3)
 
 -- the payload of row i of an index
@@ -86,7 +73,7 @@ pub record Delivers (t u : Held) (f : ℕ → List ℕ) (s e : ℕ) (index : Lis
   -- row i has the id s + i
   pub row-id : (i : ℕ) → i < idsIn s e → rowWord (recoveryIndex index r) i 0 ≡ s + i
   -- the row question for it is good
-  pub row-good : (i : ℕ) → i < idsIn s e → questionAt (recoveryAnswer r .log) (recoveryArea (u .area) r) (recoveryIndex index r) i ≡ Good
+  pub row-good : (i : ℕ) → i < idsIn s e → questionAt (recoveryAnswer r .log) (recoveryArea (u .area) r) (recoveryIndex index r) i ≡ 0
   -- its payload is the one last appended under s + i
   pub row-payload : (i : ℕ) → i < idsIn s e
       → payloadAt (recoveryAnswer r .log) (recoveryArea (u .area) r) (recoveryIndex index r) i ≡ f (s + i)

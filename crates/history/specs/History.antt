@@ -8,8 +8,9 @@ use Rattle.lists.specs.Choice.{pick}
 use Rattle.seglog.specs.declared.Log.{Log}
 use Rattle.seglog.specs.New.{newOf}
 use Rattle.seglog_append.specs.declared.Appended.{Appended}
-use Rattle.seglog_append.specs.Append.{Appending, appendLog, appendAnswer, appendArea}
-use Rattle.seglog_prune.specs.Prune.{Pruning, oldestLog, recentLog, pruneAnswer, pruneArea}
+use Rattle.seglog_append.specs.Appending.{Left, appendLog, appendAnswer, appendArea}
+use Rattle.lists.specs.Outcome.{Outcome}
+use Rattle.seglog_prune.specs.Prune.{Pruned, oldestLog, recentLog, pruneAnswer, pruneArea}
 
 -- a call: append of any bytes, prune oldest or prune recent to any number
 pub data Call : Type 0 where
@@ -29,11 +30,11 @@ begun k c m area = record { log = newOf k c m (length area) .log; area = area }
 -- ---- a run
 
 -- after an append: the answer's log, and the area as the call leaves it
-abbrev pub afterAppend : Held → Appending → Held
+abbrev pub afterAppend : Held → Outcome Left → Held
 afterAppend t r = record { log = appendAnswer (t .log) r .log; area = appendArea (t .area) r }
 
 -- after a prune: the same
-abbrev pub afterPrune : Held → Pruning → Held
+abbrev pub afterPrune : Held → Outcome Pruned → Held
 afterPrune t r = record { log = pruneAnswer (t .log) r .log; area = pruneArea (t .area) r }
 
 -- what is held after a call, refused or not

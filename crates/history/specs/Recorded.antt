@@ -1,21 +1,16 @@
 -- What a log that came from calls is, in terms of the history: well shaped, and each listed segment's image is the bytes of its
 -- records, one behind the other, with the payloads that were last appended under their ids. Assumes nothing.
 use mathlib.Core.Path.{_≡_}
-use mathlib.Core.List.{List, [], _++_}
+use mathlib.Core.List.{List}
 use mathlib.Core.Bool.{true}
-use Prim.Native.Nat.{ℕ, zero, suc, _+_, _-_, _<_}
+use Prim.Native.Nat.{ℕ, _+_, _-_, _<_}
 use lib.ListN.{length, getD}
-use Rattle.record.specs.Record.{recordBytes}
-use Rattle.seglog.specs.declared.Segment.{Segment}
-use Rattle.seglog.specs.Log.{noSegment, fittingOf}
+use Rattle.walk.specs.Records.{recordsFrom}
+use Rattle.segment.specs.declared.Segment.{Segment}
+use Rattle.seglog.specs.Log.{fittingOf}
+use Rattle.segment.specs.Segment.{noSegment, imageIn}
 use Rattle.seglog.specs.New.{newOf}
-use Rattle.seglog_prune.specs.Prune.{imageIn}
 use Rattle.history.specs.History.{Call, Held, begun, run, lastUnder, refusalOf}
-
--- the bytes of n records with the ids a, a + 1, .. and the payloads that f has for them
-unfoldable pub recordsFrom : (ℕ → List ℕ) → ℕ → ℕ → List ℕ
-recordsFrom f a zero = []
-recordsFrom f a (suc n) = recordBytes a (f a) ++ recordsFrom f (suc a) n
 
 -- the i-th entry of what is held
 abbrev pub segmentAt : Held → ℕ → Segment

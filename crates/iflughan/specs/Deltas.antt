@@ -6,12 +6,10 @@ use mathlib.Core.List.{map}
 use lib.Dec.{eqb}
 use lib.ListN.{replicate}
 use Rattle.lists.specs.Choice.{pick}
+use Rattle.lists.specs.Outcome.{Outcome, either}
 use Rattle.delta.specs.declared.Row.{Row}
 use Rattle.delta.specs.declared.Table.{Table}
-use Rattle.delta.specs.declared.Decoded.{Decoded}
-use Rattle.delta.specs.Reading.{decodingNumber, decodingConsumed}
-use Rattle.delta_encode.specs.declared.Encoded.{Encoded}
-use Rattle.delta_encode.specs.Bytes.{encodedNumber, encodedLength}
+use Rattle.delta.specs.Reading.{DecodeOutcome}
 use Rattle.iflughan.specs.declared.Written.{Written}
 use Rattle.iflughan.specs.declared.DeltaRow.{DeltaRow}
 use Rattle.iflughan.specs.declared.Delta.{Delta}
@@ -45,14 +43,14 @@ abbrev pub tableOut : Table → Delta
 tableOut t = record { count = t .count; rows = map rowOut (t .rows) }
 
 -- the refusal number, the bytes consumed and the rows of a delta that is decoded
-unfoldable pub decodedDelta : Decoded → DecodedDelta
+unfoldable pub decodedDelta : DecodeOutcome → DecodedDelta
 decodedDelta d = record {
-  refusal = decodingNumber (d .answer);
+  refusal = either (λ n. n) (λ n. 0) (d .answer);
   reserved = 0;
-  consumed = decodingConsumed (d .answer);
+  consumed = either (λ n. 0) (λ n. n) (d .answer);
   table = tableOut (d .table);
 }
 
 -- the refusal number and the length of a delta that is written
-unfoldable pub writtenDelta : Encoded → Written
-writtenDelta answer = record { refusal = encodedNumber answer; reserved = 0; length = encodedLength answer }
+unfoldable pub writtenDelta : Outcome ℕ → Written
+writtenDelta o = record { refusal = either (λ n. n) (λ n. 0) o; reserved = 0; length = either (λ n. 0) (λ n. n) o }

@@ -3,10 +3,9 @@
 use mathlib.Core.Path.{_≡_}
 use mathlib.Core.List.{List}
 use Prim.Native.Nat.{ℕ, _+_, _*_}
+use lib.Dec.{eqb}
+use Rattle.lists.specs.Choice.{pick}
 use Rattle.seglog.specs.declared.Log.{Log}
-use Rattle.payload.specs.declared.RowAnswer.{RowAnswer}
-use Rattle.payload.specs.declared.RowAnswer.the-variants.{Good, NotShaped, Outside}
-use Rattle.payload.specs.Payload.{rowNumber}
 use Rattle.recovery.specs.declared.Recovered as Library
 use Rattle.recovery.specs.Recovery.{Recovery, recoveryAnswer, recoveryArea, recoveryIndex}
 use Rattle.iflughan.specs.declared.Part.{Part}
@@ -26,8 +25,7 @@ pub record Recovers (o : Recovery) (area index : List ℕ) (r : Recovered) (area
 abbrev pub noPart : ℕ → Part
 noPart n = record { refusal = n; reserved = 0; at = 0; length = 0 }
 
--- the place of a good row's payload in the area: slot x C + offset, also where its length is 0
-abbrev pub partOf : Log → (slot offset length : ℕ) → RowAnswer → Part
-partOf l slot offset n Good = record { refusal = 0; reserved = 0; at = slot * l .c + offset; length = n }
-partOf l slot offset n NotShaped = noPart (rowNumber NotShaped)
-partOf l slot offset n Outside = noPart (rowNumber Outside)
+-- the place of a good row's payload in the area, by the number of the row question: slot x C + offset, also where its length is 0
+abbrev pub partOf : Log → (slot offset length number : ℕ) → Part
+partOf l slot offset n number =
+    pick (eqb number 0) (record { refusal = 0; reserved = 0; at = slot * l .c + offset; length = n }) (noPart number)

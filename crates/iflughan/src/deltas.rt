@@ -1,7 +1,7 @@
 // Deltas across the C interface: the library's table as rows of numbers and back, and the answers as numbers.
 ghost use mathlib.Core.Path.{_≡_};
 ghost use Rattle.delta.specs.Reading.{decodedOf};
-ghost use Rattle.delta_encode.specs.Bytes.{encodedOf, afterOf};
+ghost use Rattle.delta_encode.specs.Bytes.{encodeOutcome, encodedOf, afterOf};
 ghost use Rattle.iflughan.specs.Deltas.{tableIn, markOf, tableOut, decodedDelta, writtenDelta};
 use crate::DecodedDelta;
 use crate::Delta;
@@ -89,7 +89,7 @@ fn table_out(t: Table) -> Delta
 
 // The answer of `encode` as numbers.
 fn written_delta(answer: Encoded) -> Written
-    ensures { λ r. ⌜ r ≡ writtenDelta answer ⌝ }
+    ensures { λ r. ⌜ r ≡ writtenDelta (encodeOutcome answer) ⌝ }
 {
     Written {
         refusal: delta_encode::encoded_number(answer),

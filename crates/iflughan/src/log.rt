@@ -2,7 +2,7 @@
 ghost use mathlib.Core.Path.{_≡_};
 ghost use lib.ListN.{length};
 ghost use Rattle.seglog.specs.New.{newOf};
-ghost use Rattle.seglog_append.specs.Append.{appendLog, appendAnswer, appendArea};
+ghost use Rattle.seglog_append.specs.Appending.{appendLog, appendAnswer, appendArea};
 ghost use Rattle.seglog_prune.specs.Prune.{oldestLog, recentLog, pruneAnswer, pruneArea};
 ghost use Rattle.iflughan.specs.Log.{loggedOut, appendedOut};
 use crate::Appended;

@@ -1,6 +1,6 @@
-pub mod Insert
-pub mod Tests
-pub mod Order
-pub mod Ids
+pub mod ImageRows
+pub mod Listed
 pub mod Ways
+pub mod FitTurns
+pub mod SortTurns
 pub mod Unique

@@ -1,4 +1,3 @@
 pub mod ImageRows
-pub mod Sorted
 pub mod Rows
 pub mod Arrange

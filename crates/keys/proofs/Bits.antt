@@ -1,8 +1,8 @@
 -- Two keys are the same exactly when all their 256 bits are: no bit is left out of a comparison.
 -- Assumes nothing.
-use Prim.Native.Nat.{ℕ, zero, suc, _+_, _*_, _/_, _%_, _^_, _<_, _≤_}
+use Prim.Native.Nat.{ℕ, zero, suc, _+_, _*_, _/_, _%_, _^_, _<_}
 use mathlib.Core.List.{List}
-use mathlib.Core.Path.{_≡_, refl, ap, sym, subst, _∙_}
+use mathlib.Core.Path.{_≡_, ap, sym, _∙_}
 use lib.ListN.{length, getD}
 use lib.Seq.{ext-getD}
 use native.Mathlib.Nat.{div-div-eq-div-mul, pow-suc, pow-succ'}

@@ -1,5 +1,5 @@
 pub mod Order
 pub mod Bits
 pub mod Place
-pub mod Sort
+pub mod Sorting
 pub mod Ranks

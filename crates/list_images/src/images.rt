@@ -1,84 +1,156 @@
-// The slots that images need, and the first and the last record that they hold.
+// The slots that images need, and the walk over each image before recovery: how many records it has, which, and its first fault.
+use crate::arguments::Range;
+use crate::lines;
+use crate::named;
+use crate::say;
 use image_rows::Rows;
-use record::HeaderAnswer;
-use seglog::Log;
+use segment::ImageRow;
+use walk::Scan;
+
+const LAST_ID: u64 = 18446744073709551615;
+
+// What the walk over an image, or over all, found: document 01's number of the first fault and where it is, and the ids.
+pub(crate) struct Walked {
+    pub(crate) refusal: u32,
+    pub(crate) at: usize,
+    pub(crate) records: u64,
+    pub(crate) first: u64,
+    pub(crate) last: u64,
+}
 
 // The slot that an image of this size needs: whole pages, one at least; 2^31 where no slot is large enough.
-pub(crate) fn slot_size(largest: usize) -> usize {
-    if largest == 0 {
-        return 4096;
+pub(crate) fn slot_size(size: u64) -> u64 {
+    if size == 0 {
+        return page::PAGE_SIZE;
     }
-    if 2147483648 < largest {
+    if 2147483648 < size {
         return 2147483648;
     }
-    (largest + 4095) / 4096 * 4096
+    page::reader_next_pos(size as u32)
 }
 
-// The id of an image's first record, 0 where there is none.
-fn first_id(image: &[u8]) -> u64 {
-    let HeaderAnswer::Header(header) = record::read_header(image, 0) else {
-        return 0;
-    };
-    header.id
-}
-
-// The id of an image's last record, 0 where there is none.
-fn last_id(image: &[u8]) -> u64 {
-    let mut last: u64 = 0;
-    let mut at: usize = 0;
-    while at < image.len() {
-        let HeaderAnswer::Header(header) = record::read_header(image, at) else {
-            return last;
-        };
-        last = header.id;
-        if 1073741824 < header.length {
-            return last;
-        }
-        let left = image.len() - at;
-        let taken = page::reader_next_pos(12 + header.length) as usize;
-        if left <= taken {
-            return last;
-        }
-        if taken == 0 {
-            return last;
-        }
-        at += taken;
-    }
-    last
-}
-
-// The image of row i, as a part of the area.
-fn image<'a>(log: Log, area: &'a [u8], images: Rows, i: usize) -> &'a [u8] {
-    if 64 <= i {
-        return &area[..0];
-    }
-    let row = images.rows[i];
-    payload::payload(log, area, 0, row.slot as u64, 0, row.size)
-}
-
-// The first record of all images, 0 where there is none.
-pub(crate) fn first_record(log: Log, area: &[u8], images: Rows) -> u64 {
+// The slot that the largest image needs.
+pub(crate) fn largest_slot(rows: Rows) -> u64 {
+    let mut largest: u64 = page::PAGE_SIZE;
     let mut i: usize = 0;
     while i < 64 {
-        let id = first_id(image(log, area, images, i));
-        if id != 0 {
-            return id;
+        if rows.count <= i {
+            break;
+        }
+        let row = rows.rows[i];
+        let wanted = slot_size(row.size);
+        if largest < wanted {
+            largest = wanted;
         }
         i += 1;
     }
-    0
+    largest
 }
 
-// The last record of all images, 0 where there is none.
-pub(crate) fn last_record(log: Log, area: &[u8], images: Rows) -> u64 {
-    let mut last: u64 = 0;
+fn nothing() -> Walked {
+    Walked {
+        refusal: 0,
+        at: 0,
+        records: 0,
+        first: 0,
+        last: 0,
+    }
+}
+
+fn refused(before: Walked, number: u32) -> Walked {
+    let mut walked = before;
+    walked.refusal = number;
+    walked
+}
+
+// What the state at the end of an image, or at its first fault, says: ids rise by one inside an image.
+fn found(number: u32, scan: Scan) -> Walked {
+    let more = std::num::wrapping_sub_u64(scan.max, scan.min);
+    Walked {
+        refusal: number,
+        at: scan.pos as usize,
+        records: if scan.min == 0 {
+            0
+        } else {
+            std::num::wrapping_add_u64(more, 1)
+        },
+        first: scan.min,
+        last: scan.max,
+    }
+}
+
+// The walk over one image, to its end or to its first fault; every record is live where no range is given.
+fn walk_image(image: &[u8], range: Range) -> Walked {
+    let s = if range.given { range.start } else { 1 };
+    let e = if range.given { range.end } else { LAST_ID };
+    let state = walk::opened(walk::start(), image.len() as u64);
+    let answer = walk::walk_image(image, s, e, state);
+    match answer {
+        walk::Walked::Ended(scan) => found(0, scan),
+        walk::Walked::Faulted(number, scan) => found(number, scan),
+    }
+}
+
+// The image of a row, as a part of the area.
+fn image<'a>(area: &'a [u8], row: ImageRow, c: u64) -> &'a [u8] {
+    let from = slices::room(row.slot as u64, c);
+    let slot = slices::between(area, from, area.len());
+    slices::front(slot, row.size as usize)
+}
+
+// The line of an image.
+fn say_image(name: &[u8], row: ImageRow, walked: Walked) {
+    named(b"slot", row.slot as u64);
+    say(b": ");
+    say(name);
+    named(b",", row.size);
+    named(b" bytes,", walked.records);
+    say(b" records");
+    if walked.records != 0 {
+        named(b",", walked.first);
+        named(b" to", walked.last);
+    }
+    if walked.refusal != 0 {
+        named(b"; refused", walked.refusal as u64);
+        named(b" at byte", walked.at as u64);
+    }
+    say(b"\n");
+}
+
+// Both walks, one image behind the other; the first fault stays.
+fn joined(all: Walked, one: Walked) -> Walked {
+    Walked {
+        refusal: if all.refusal == 0 {
+            one.refusal
+        } else {
+            all.refusal
+        },
+        at: 0,
+        records: std::num::wrapping_add_u64(all.records, one.records),
+        first: if all.records == 0 {
+            one.first
+        } else {
+            all.first
+        },
+        last: if one.records == 0 { all.last } else { one.last },
+    }
+}
+
+// Walks each image, in the order of their segment ids, and says what it holds.
+pub(crate) fn walk(names: &[u8], images: Rows, range: Range, area: &[u8], c: u64) -> Walked {
+    let arranged = image_rows::arrange(images.count as u64, c, images);
+    let rows = arranged.rows;
+    let mut all = refused(nothing(), arranged.refusal);
     let mut i: usize = 0;
     while i < 64 {
-        let id = last_id(image(log, area, images, i));
-        if id != 0 {
-            last = id;
+        if rows.count <= i {
+            break;
         }
+        let row = rows.rows[i];
+        let one = walk_image(image(area, row, c), range);
+        say_image(lines::name(lines::line(names, row.slot as usize)), row, one);
+        all = joined(all, one);
         i += 1;
     }
-    last
+    all
 }

@@ -1,56 +1,93 @@
-// What a folder of segment images holds: list_images FOLDER PREFIX [FIRST [S E]]
-// Takes the files from segment id FIRST on (the first that is there, where FIRST is not given), up to the first that is missing, recovers
-// S..E (the whole, from the first record to the last, where no range is given) and writes specimen 13's lines. Nothing is changed.
-// Up to 64 images; their number times the largest is at most 4 MiB. It reads folders that the original wrote: those of data/ were.
+// What a folder of segment images holds: list_images FOLDER PREFIX [S E] <NAMES
+// NAMES are the folder's names that begin with the prefix, a line each: `file NAME`, or `other NAME` where it is no file. `./iflughan list`
+// makes them. Recovers S..E, or all records where no range is given, and writes the images, specimen 13's lines and, last, `ok` or
+// `refused`. `ok` is said only where each name was a segment's, its file was read whole and the library accepted it. Nothing is changed.
 mod arguments;
+mod files;
 mod images;
+mod judge;
+mod lines;
 
-use image_files::Found;
-use report::say;
+use arguments::Range;
+use image_rows::Rows;
+use libc::STDIN_FILENO;
+use libc::STDOUT_FILENO;
 
-// The images' bytes; the index has four words for each page of them.
-const AREA: usize = 4194304;
+// The images' bytes in memory; the index has four words for each page of them.
+const AREA: usize = 524288;
 
-// Recovers from the images in the area, and lists what they hold.
-fn list(area: &mut [u8], c: u64, images: image_rows::Rows, s: u64, e: u64) {
-    let mut index = [0u64; 4096];
-    let k = images.count as u64;
-    let recovered = recovery::recover_rows(k, c, c, area, images, s, e, &mut index);
+pub(crate) fn say(bytes: &[u8]) {
+    io::write_all(STDOUT_FILENO, bytes);
+}
+
+// Writes a word, a space and a number.
+pub(crate) fn named(word: &[u8], v: u64) {
+    say(word);
+    say(b" ");
+    io::print_decimal(STDOUT_FILENO, v);
+}
+
+// Recovers s..e from the images in the area, and lists what they hold.
+fn list(area: &mut [u8], c: u64, rows: Rows, s: u64, e: u64) {
+    let mut index = [0u64; 512];
+    let k = rows.count as u64;
+    let recovered = recovery::recover(k, c, c, area, rows, s, e, &mut index);
     if recovered.refusal != 0 {
-        report::named(b"refused", recovered.refusal as u64);
-        report::named(b" recovering", s);
-        report::named(b" to", e);
+        named(b"refused", recovered.refusal as u64);
+        named(b" recovering", s);
+        named(b" to", e);
         say(b"\n");
         return;
     }
-    listing::kept(recovered.log);
-    listing::rows(&index, recovered.rows);
-    report::named(b"ok", recovered.rows);
-    report::named(b" records in", k);
+    let mut lines = io::large_buffer();
+    let kept = listing::kept(recovered.log, &mut lines, 0);
+    let legend = text::put(&mut lines, kept, b"record slot offset length\n");
+    let end = listing::rows(&index, recovered.rows, &mut lines, legend);
+    say(slices::front(&lines, end));
+    named(b"ok", recovered.rows);
+    named(b" records in", k);
     say(b" images\n");
 }
 
-// Reads the images that were found, and lists them.
-fn list_found(folder: &[u8], prefix: &[u8], found: Found, area: &mut [u8]) {
-    let c = images::slot_size(found.largest);
-    let room = slices::room(found.count as u64, c as u64);
+// Reads the images into the slots of the area's part that they need, walks each, and lists what they hold.
+fn list_judged(folder: &[u8], names: &[u8], rows: Rows, range: Range, area: &mut [u8]) {
+    let c = images::largest_slot(rows);
+    let room = slices::room(rows.count as u64, c);
     if area.len() < room {
-        report::named(b"refused 1: images that need", room as u64);
-        report::named(b" bytes, and there are", area.len() as u64);
-        say(b"\n");
+        say(b"refused: the images need more memory than this program has\n");
         return;
     }
     let used = &mut area[..room];
-    let rows = image_files::load(folder, prefix, found, &mut *used, c);
-    let asked = arguments::asked();
-    if asked.given {
-        list(used, c as u64, rows, asked.start, asked.end);
+    let changed = files::load(folder, names, rows, &mut *used, c as usize);
+    if changed != 0 {
+        say(b"refused: a file was changed while it was read, as said above\n");
         return;
     }
-    let empty = seglog::new_log(rows.count as u64, c as u64, c as u64, &mut *used);
-    let first = images::first_record(empty.log, used, rows);
-    let last = images::last_record(empty.log, used, rows);
-    list(used, c as u64, rows, first, last);
+    let whole = images::walk(names, rows, range, used, c);
+    if whole.refusal != 0 {
+        named(b"refused", whole.refusal as u64);
+        say(b" in the image said above\n");
+        return;
+    }
+    if range.given {
+        list(used, c, rows, range.start, range.end);
+        return;
+    }
+    list(used, c, rows, whole.first, whole.last);
+}
+
+// Says what does not belong, or lists the images.
+fn judge_and_list(folder: &[u8], prefix: &[u8], names: &[u8], range: Range, area: &mut [u8]) {
+    let judged = judge::all(folder, prefix, names, area.len());
+    if judged.faults != 0 {
+        say(b"refused: not all that is there belongs to the log, as said above\n");
+        return;
+    }
+    if judged.rows.count == 0 {
+        say(b"refused: the folder has no file of this prefix\n");
+        return;
+    }
+    list_judged(folder, names, judged.rows, range, area);
 }
 
 fn work(area: &mut [u8]) {
@@ -58,24 +95,22 @@ fn work(area: &mut [u8]) {
     let folder_length = os::arg(1, &mut folder);
     let mut prefix = io::buffer();
     let prefix_length = os::arg(2, &mut prefix);
-    if prefix_length == 0 {
-        say(b"refused 30: list_images FOLDER PREFIX [FIRST [S E]]\n");
+    let range = arguments::asked();
+    if (folder_length == 0) | (prefix_length == 0) | !range.good {
+        say(b"usage: list_images FOLDER PREFIX [S E] <NAMES\n");
         return;
     }
-    let found = image_files::find(
-        &folder[..folder_length],
-        &prefix[..prefix_length],
-        arguments::first(),
-        &mut *area,
-    );
-    if found.count == 0 {
-        say(b"refused 1: no image of this prefix\n");
+    let mut names = io::large_buffer();
+    let length = io::read_full(STDIN_FILENO, &mut names);
+    if length == 65536 {
+        say(b"refused: more than 65535 bytes of names\n");
         return;
     }
-    list_found(
+    judge_and_list(
         &folder[..folder_length],
         &prefix[..prefix_length],
-        found,
+        &names[..length],
+        range,
         area,
     );
 }

@@ -1,13 +1,19 @@
-// What the programs print of a log: the line of its live range and one line an index row, as specimen 13 has them; and the image rows
-// of a log's segments. What is written to a descriptor is no part of any contract.
-use image_rows::ImageRow;
+// What the programs print of a log, put into a lent buffer: the line of its live range and one line an index row, as specimen 13 has them.
+// And the image rows of a log's segments.
+ghost use mathlib.Core.Path.{_≡_};
+ghost use Prim.Native.Nat.{_+_, _≤_};
+ghost use lib.ListN.{length, drop};
+ghost use Rattle.text.specs.Texts.{Put};
+ghost use Rattle.listing.specs.Lines.{keptLine, rowWords, rowLine, rowLines};
+ghost use Rattle.listing.specs.Images.{imagesOf};
 use image_rows::Rows;
-use report::number;
-use report::say;
 use seglog::Log;
+use segment::ImageRow;
 
 // The image rows of the log's segments.
-pub fn images_of(log: Log) -> Rows {
+pub fn images_of(log: Log) -> Rows
+    ensures { λ r. ⌜ r ≡ imagesOf log ⌝ }
+{
     let none = ImageRow {
         id: 0,
         slot: 0,
@@ -30,68 +36,56 @@ pub fn images_of(log: Log) -> Rows {
     }
 }
 
-// How many segments the log lists, and its live range.
-pub fn kept(log: Log) {
-    say(b"kept ");
-    number(log.count as u64);
-    say(b" live ");
-    number(log.start);
-    say(b" ");
-    number(log.end);
-    say(b"\n");
+// How many segments the log lists, and its live range, as a line from `at` on; where it ends.
+pub fn kept(log: Log, out: &mut [u8], at: usize) -> usize
+    ensures { λ r. ⌜ Put at (keptLine (log .count) (log .start) (log .end)) (now (out .entry)) r (now (out .exit)) ⌝ }
+{
+    let count = text::put_named(&mut *out, at, b"kept ", log.count as u64);
+    let start = text::put_named(&mut *out, count, b" live ", log.start);
+    let end = text::put_named(&mut *out, start, b" ", log.end);
+    text::put(out, end, b"\n")
 }
 
-// The four words of an index row.
-pub fn row(id: u64, slot: u64, offset: u64, length: u64) {
-    number(id);
-    say(b" ");
-    number(slot);
-    say(b" ");
-    number(offset);
-    say(b" ");
-    number(length);
+// The four words of an index row from `at` on; where they end.
+pub fn row(id: u64, slot: u64, offset: u64, length: u64, out: &mut [u8], at: usize) -> usize
+    ensures { λ r. ⌜ Put at (rowWords id slot offset length) (now (out .entry)) r (now (out .exit)) ⌝ }
+{
+    let first = text::put_number(&mut *out, at, id);
+    let second = text::put_named(&mut *out, first, b" ", slot);
+    let third = text::put_named(&mut *out, second, b" ", offset);
+    text::put_named(out, third, b" ", length)
 }
 
-// The first `count` rows of an index, a line each.
-pub fn rows(index: &[u64], count: u64) {
+// The row that begins at word i of an index, as a line from `at` on; where it ends.
+fn line(index: &[u64], i: usize, out: &mut [u8], at: usize) -> usize
+    requires { ⌜ i + 4 ≤ length (now index) ⌝ }
+    ensures { λ r. ⌜ Put at (rowLine (drop i (now (index .entry)))) (now (out .entry)) r (now (out .exit)) ⌝ }
+{
+    let words = row(
+        index[i],
+        index[i + 1],
+        index[i + 2],
+        index[i + 3],
+        &mut *out,
+        at,
+    );
+    text::put(out, words, b"\n")
+}
+
+// The first `count` rows of an index, as far as it has them, a line each from `at` on; where they end.
+pub fn rows(index: &[u64], count: u64, out: &mut [u8], at: usize) -> usize
+    ensures { λ r. ⌜ Put at (rowLines count (now (index .entry))) (now (out .entry)) r (now (out .exit)) ⌝ }
+{
+    let mut end = text::put(&mut *out, at, b"");
     let mut left = count;
-    let mut at: usize = 0;
+    let mut i: usize = 0;
     while 0 < left {
-        if index.len() - at < 4 {
-            return;
+        if index.len() - i < 4 {
+            return end;
         }
-        row(index[at], index[at + 1], index[at + 2], index[at + 3]);
-        say(b"\n");
-        at += 4;
+        end = line(index, i, &mut *out, end);
+        i += 4;
         left -= 1;
     }
-}
-
-// The same, with each record's payload, a text, behind its row.
-pub fn rows_and_texts(log: Log, area: &[u8], index: &[u64], count: u64) {
-    let mut left = count;
-    let mut at: usize = 0;
-    while 0 < left {
-        if index.len() - at < 4 {
-            return;
-        }
-        row_and_text(
-            log,
-            area,
-            index[at],
-            index[at + 1],
-            index[at + 2],
-            index[at + 3],
-        );
-        at += 4;
-        left -= 1;
-    }
-}
-
-fn row_and_text(log: Log, area: &[u8], id: u64, slot: u64, offset: u64, length: u64) {
-    row(id, slot, offset, length);
-    say(b" ");
-    let text = payload::payload(log, area, id, slot, offset, length);
-    say(text);
-    say(b"\n");
+    end
 }

@@ -4,19 +4,25 @@ use mathlib.Core.Path.{_≡_, refl, sym, ap, _∙_}
 use mathlib.Core.Bool.{true, false}
 use mathlib.Core.List.{List, [], _∷_, _++_}
 use Prim.Native.Nat.{ℕ, zero, suc, _+_, _-_, _*_, _/_, _%_, _^_, _≤_, _<_}
-use native.Mathlib.Nat.{pow-suc, pow-succ', add-zero, zero-add, add-suc, suc-add, add-assoc, one-mul, mul-add, mul-assoc, zero-lt-suc, div-lt-iff-lt-mul}
+use native.Mathlib.Nat.{pow-suc, pow-succ', add-zero, zero-add, add-suc, suc-add, add-assoc, one-mul, mul-add, mul-assoc}
+use native.Mathlib.Nat.{zero-lt-suc, div-lt-iff-lt-mul}
 use native.Mathlib.Numerals.{towards-suc}
 use native.Mathlib.Omega.{arith}
 use lib.Dec.{leb}
 use borrow.Author.Tests.{le-leb, lt-leb}
 use lib.ListN.{length, getD, take, drop, length-append, length-take}
 use lib.Seq.{getD-append-seam, append-snoc}
+use Rattle.lists.specs.Outcome.{refused, done, either}
 use Rattle.lists.specs.Splice.{part, splice}
+use Rattle.lists.proofs.Bools.{zero-is-not-one}
+use Rattle.lists.proofs.Outcome.{refused-is-not-done, done-injective}
 use Rattle.lists.proofs.Splice.{splice-fits, splice-before, splice-behind}
 use Rattle.lists.proofs.Cases.{by-test, by-order}
+use Rattle.little_endian.specs.declared.U32At.{U32At}
 use Rattle.little_endian.specs.declared.U32At.the-variants as U32At
+use Rattle.little_endian.specs.declared.U64At.{U64At}
 use Rattle.little_endian.specs.declared.U64At.the-variants as U64At
-use Rattle.little_endian.specs.LittleEndian.{leBytes, leAt, standAt, u32At, u64At}
+use Rattle.little_endian.specs.LittleEndian.{leBytes, leAt, standAt, numberAt, u32Outcome, u64Outcome, u32By, u32At}
 
 -- a number of n bytes has n bytes
 pub le-bytes-length : (n v : ℕ) → length (leBytes n v) ≡ n
@@ -84,46 +90,71 @@ stand-shift at n len h =
     by-order n (len - at) (λ g. le-leb n (len - at) g ∙ sym (le-leb (at + n) len (omega arith)))
     (λ g. lt-leb n (len - at) g ∙ sym (lt-leb (at + n) len (omega arith)))
 
--- the answers of reading, by whether the bytes stand
-pub u32-short : (s : List ℕ) (at : ℕ) → standAt 4 s at ≡ false → u32At s at ≡ U32At.Short
-unfolding u32At
-u32-short s at h = simp h
+-- ---- reading
 
--- the u32 that stands there
-pub u32-value : (s : List ℕ) (at : ℕ) → standAt 4 s at ≡ true → u32At s at ≡ U32At.Value (leAt 4 s at)
-unfolding u32At
-u32-value s at h = simp h
+module _ (n : ℕ) (s : List ℕ) (at : ℕ) where
+  -- bytes are missing
+  pub number-refuses-40 : standAt n s at ≡ false → numberAt n s at ≡ refused 40
+  unfolding numberAt
+  number-refuses-40 h = simp h
 
--- a u64 of which bytes are missing
-pub u64-short : (s : List ℕ) (at : ℕ) → standAt 8 s at ≡ false → u64At s at ≡ U64At.Short
-unfolding u64At
-u64-short s at h = simp h
+  -- the number that stands there
+  pub number-reads : standAt n s at ≡ true → numberAt n s at ≡ done (leAt n s at)
+  unfolding numberAt
+  number-reads h = simp h
+
+  -- a number that was read is what the bytes spell
+  pub number-is : (v : ℕ) → numberAt n s at ≡ done v → leAt n s at ≡ v
+  number-is v e =
+      by-test (standAt n s at) (λ h. done-injective (sym (number-reads h) ∙ e))
+      (λ h. refused-is-not-done (sym (number-refuses-40 h) ∙ e))
+
+  -- a number whose bytes stand is read
+  pub number-stands : at + n ≤ length s → (m : ℕ) → numberAt n s at ≡ refused m → ⊥
+  number-stands h m e = refused-is-not-done (sym e ∙ number-reads (le-leb (at + n) (length s) h))
 
 -- the u64 that stands there, by its two halves
-pub u64-halves : (s : List ℕ) (at : ℕ) → standAt 8 s at ≡ true → u64At s at ≡ U64At.Value (leAt 4 s at + 4294967296 * leAt 4 s (at + 4))
-unfolding u64At
-u64-halves s at h = simp h (ap U64At.Value (le-join 4 4 s at))
+pub number-halves : (s : List ℕ) (at : ℕ) → standAt 8 s at ≡ true
+    → numberAt 8 s at ≡ done (leAt 4 s at + 4294967296 * leAt 4 s (at + 4))
+number-halves s at h = number-reads 8 s at h ∙ ap done (le-join 4 4 s at)
+
+-- ---- the answers of reading, each determined by its number and value
+
+u32-by : (a : U32At) → u32By (u32Outcome a) ≡ a
+u32-by (U32At.Value v) = refl
+u32-by U32At.Short = refl
+
+pub u32-determined : (a b : U32At) → u32Outcome a ≡ u32Outcome b → a ≡ b
+u32-determined a b e = sym (u32-by a) ∙ ap u32By e ∙ u32-by b
+
+-- what `read_u32` answers, by its contract, as the case that it is
+pub u32-answer : (a : U32At) (s : List ℕ) (at : ℕ) → u32Outcome a ≡ numberAt 4 s at → a ≡ u32At s at
+unfolding u32At
+u32-answer a s at e = sym (u32-by a) ∙ ap u32By e
+
+u64-by : (a : U64At) → either (λ n. U64At.Short) (λ v. U64At.Value v) (u64Outcome a) ≡ a
+u64-by (U64At.Value v) = refl
+u64-by U64At.Short = refl
+
+pub u64-determined : (a b : U64At) → u64Outcome a ≡ u64Outcome b → a ≡ b
+u64-determined a b e = sym (u64-by a) ∙ ap (either (λ n. U64At.Short) (λ v. U64At.Value v)) e ∙ u64-by b
+
+-- ---- the u32 at a place, by whether its bytes stand
+
+pub u32-short : (s : List ℕ) (at : ℕ) → standAt 4 s at ≡ false → u32At s at ≡ U32At.Short
+unfolding u32At
+u32-short s at h = ap u32By (number-refuses-40 4 s at h)
+
+pub u32-value : (s : List ℕ) (at : ℕ) → standAt 4 s at ≡ true → u32At s at ≡ U32At.Value (leAt 4 s at)
+unfolding u32At
+u32-value s at h = ap u32By (number-reads 4 s at h)
 
 -- a u32 that was read is what the four bytes spell
 pub u32-is : (s : List ℕ) (at v : ℕ) → u32At s at ≡ U32At.Value v → leAt 4 s at ≡ v
 u32-is s at v e =
     by-test (standAt 4 s at) (λ h. let q = sym (u32-value s at h) ∙ e in cc)
-    (λ h. let q = sym (u32-short s at h) ∙ e in absurd (let z : _≡_ {A = ℕ} 0 1 = cc in omega arith))
+    (λ h. let q = sym (u32-short s at h) ∙ e in zero-is-not-one (cc))
 
 -- a u32 whose bytes stand is read
 pub u32-stands : (s : List ℕ) (at : ℕ) → at + 4 ≤ length s → u32At s at ≡ U32At.Short → ⊥
-u32-stands s at h e =
-    let q = sym (u32-value s at (le-leb (at + 4) (length s) h)) ∙ e in
-    let z : _≡_ {A = ℕ} 0 1 = cc in omega arith
-
--- a u64 that was read is what the eight bytes spell
-pub u64-is : (s : List ℕ) (at v : ℕ) → u64At s at ≡ U64At.Value v → leAt 8 s at ≡ v
-u64-is s at v e =
-    by-test (standAt 8 s at) (λ h. let q = sym (u64-halves s at h) ∙ e in le-join 4 4 s at ∙ cc)
-    (λ h. let q = sym (u64-short s at h) ∙ e in absurd (let z : _≡_ {A = ℕ} 0 1 = cc in omega arith))
-
--- a u64 whose bytes stand is read
-pub u64-stands : (s : List ℕ) (at : ℕ) → at + 8 ≤ length s → u64At s at ≡ U64At.Short → ⊥
-u64-stands s at h e =
-    let q = sym (u64-halves s at (le-leb (at + 8) (length s) h)) ∙ e in
-    let z : _≡_ {A = ℕ} 0 1 = cc in omega arith
+u32-stands s at h e = let q = sym (u32-value s at (le-leb (at + 4) (length s) h)) ∙ e in zero-is-not-one (cc)

@@ -1,11 +1,11 @@
 // Little-endian numbers in a slice of bytes: a u32 or a u64 read from a place, its bytes, and its bytes written over a place.
-// Reading refuses where the bytes don't all stand; its callers give that document 01's number (17 in an image, 40 in a delta).
+// Reading refuses where the bytes don't all stand: 40, as in a delta. A header's reader tests its twelve bytes before, and gives 17.
 ghost use mathlib.Core.Path.{_≡_};
 ghost use Prim.Native.Nat.{_+_, _<_, _≤_, _^_};
 ghost use lib.Dec.{leb};
 ghost use lib.ListN.{length};
 ghost use Rattle.lists.specs.Splice.{splice};
-ghost use Rattle.little_endian.specs.LittleEndian.{leAt, leBytes, u32At, u64At};
+ghost use Rattle.little_endian.specs.LittleEndian.{leAt, leBytes, numberAt, u32Outcome, u64Outcome};
 
 pub enum U32At {
     Value(u32),
@@ -47,7 +47,7 @@ fn four(s: &[u8], at: usize) -> u32
 }
 
 pub fn read_u32(s: &[u8], at: usize) -> U32At
-    ensures { λ r. ⌜ r ≡ u32At (now (s .entry)) at ⌝ }
+    ensures { λ r. ⌜ u32Outcome r ≡ numberAt 4 (now (s .entry)) at ⌝ }
 {
     if !stand(s.len(), at, 4) {
         return U32At::Short;
@@ -56,7 +56,7 @@ pub fn read_u32(s: &[u8], at: usize) -> U32At
 }
 
 pub fn read_u64(s: &[u8], at: usize) -> U64At
-    ensures { λ r. ⌜ r ≡ u64At (now (s .entry)) at ⌝ }
+    ensures { λ r. ⌜ u64Outcome r ≡ numberAt 8 (now (s .entry)) at ⌝ }
 {
     if !stand(s.len(), at, 8) {
         return U64At::Short;

@@ -1,2 +1,2 @@
-pub mod Payload
+pub mod Row
 pub mod PayloadDelta

@@ -5,8 +5,8 @@ ghost use mathlib.Core.List.{[]};
 ghost use Prim.Native.Nat.{_+_, _*_};
 ghost use Rattle.lists.specs.Splice.{part};
 ghost use Rattle.delta.specs.Table.{tableOf};
-ghost use Rattle.delta.specs.Reading.{decodedOf};
-ghost use Rattle.payload.specs.Payload.{rowNumber, outsideOf, rowQuestion, GoodRow, payloadOf};
+ghost use Rattle.delta.specs.Reading.{decodeOutcome};
+ghost use Rattle.payload.specs.Row.{rowNumber, outsideOf, rowQuestion, GoodRow, payloadOf};
 ghost use Rattle.payload.specs.PayloadDelta.{noDelta, deltaAnswer, payloadDelta};
 use delta::Decoded;
 use delta::Row;
@@ -21,7 +21,7 @@ pub enum RowAnswer {
     Outside,
 }
 
-// Document 01's number of an answer.
+// Document 01's number of an answer, 0 where the row is good.
 pub fn row_number(answer: RowAnswer) -> u32
     ensures { λ r. ⌜ r ≡ rowNumber answer ⌝ }
 {
@@ -54,7 +54,7 @@ pub fn row_question(
     offset: u64,
     length: u64,
 ) -> RowAnswer
-    ensures { λ r. ⌜ r ≡ rowQuestion log (now (area .entry)) slot offset length ⌝ }
+    ensures { λ r. ⌜ rowNumber r ≡ rowQuestion log (now (area .entry)) slot offset length ⌝ }
 {
     if !seglog::fits(log, area.len()) {
         return RowAnswer::NotShaped;
@@ -122,7 +122,7 @@ fn no_delta(number: u32) -> PayloadDelta
 
 // The decoder's answer.
 fn delta_answer(decoded: Decoded) -> PayloadDelta
-    ensures { λ r. ⌜ r ≡ deltaAnswer decoded ⌝ }
+    ensures { λ r. ⌜ r ≡ deltaAnswer (decodeOutcome decoded) ⌝ }
 {
     let answer = decoded.answer;
     let table = decoded.table;

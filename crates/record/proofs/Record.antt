@@ -1,5 +1,5 @@
--- The laws of a record's bytes and of reading headers: how long they are, and that a record's bytes, wherever they stand, are read as
--- its header. Assumes nothing.
+-- The laws of a record's bytes and of reading headers: how long they are, the cases of what is read, that an answer is determined by
+-- its number and value, and that a record's bytes, wherever they stand, are read as its header. Assumes nothing.
 use mathlib.Core.Path.{_≡_, refl, sym, ap, _∙_}
 use mathlib.Core.Bool.{Bool, true, false}
 use mathlib.Core.List.{List, [], _∷_, _++_, append-assoc}
@@ -10,16 +10,18 @@ use lib.Seq.{take-at, drop-at}
 use lib.Dec.{ltb, leb, lit<}
 use borrow.Author.Tests.{lt-ltb, le-ltb, ltb-true, ltb-false, le-leb}
 use Rattle.lists.specs.Choice.{pick}
+use Rattle.lists.specs.Outcome.{refused, done}
 use Rattle.lists.specs.Splice.{part, splice}
+use Rattle.lists.proofs.Bools.{zero-is-not-one}
 use Rattle.lists.proofs.Splice.{splice-join}
 use Rattle.page.specs.Page.{paddedEnd}
 use Rattle.page.proofs.Page.{pad-ge, pad-lt, pad-multiple}
-use Rattle.little_endian.specs.LittleEndian.{leAt, leBytes, standAt, u32At, u64At}
+use Rattle.little_endian.specs.LittleEndian.{leAt, leBytes}
 use Rattle.little_endian.proofs.LittleEndian.{le-bytes-length, le-read}
 use Rattle.record.specs.declared.RecordHeader.{RecordHeader}
 use Rattle.record.specs.declared.HeaderAnswer.{HeaderAnswer}
 use Rattle.record.specs.declared.HeaderAnswer.the-variants.{Header, Short, TooLong}
-use Rattle.record.specs.Record.{maxPayload, headerBytes, recordRoom, recordBytes, headerAt}
+use Rattle.record.specs.Record.{maxPayload, headerBytes, recordRoom, recordBytes, headerOutcome, headerOf, headerBy, headerAt}
 
 -- a header of a length and an id
 abbrev pub header : ℕ → ℕ → RecordHeader
@@ -80,21 +82,39 @@ record-steps at id p l =
 
 -- ---- reading headers
 
--- the cases of a header, by the tests that lead to each
-pub header-short : (img : List ℕ) (pos : ℕ) → length img - pos < 12 → headerAt img pos ≡ Short
-unfolding headerAt
-header-short img pos h = simp (lt-ltb _ _ h)
+module _ (img : List ℕ) (pos : ℕ) where
+  pub header-refuses-17 : length img - pos < 12 → headerOf img pos ≡ refused 17
+  unfolding headerOf
+  header-refuses-17 h = simp (lt-ltb _ _ h)
 
--- too long a payload
-pub header-long : (img : List ℕ) (pos : ℕ) → 12 ≤ length img - pos → maxPayload < leAt 4 img pos → headerAt img pos ≡ TooLong
-unfolding headerAt
-header-long img pos h l = simp (le-ltb _ _ h, lt-ltb _ _ l)
+  pub header-refuses-18 : 12 ≤ length img - pos → maxPayload < leAt 4 img pos → headerOf img pos ≡ refused 18
+  unfolding headerOf
+  header-refuses-18 h l = simp (le-ltb _ _ h, lt-ltb _ _ l)
 
--- a header that can be read
-pub header-good : (img : List ℕ) (pos n i : ℕ) → 12 ≤ length img - pos → leAt 4 img pos ≡ n → leAt 8 img (pos + 4) ≡ i → n ≤ maxPayload
-    → headerAt img pos ≡ Header (header n i)
+  -- a header that can be read
+  pub header-reads : (n i : ℕ) → 12 ≤ length img - pos → leAt 4 img pos ≡ n → leAt 8 img (pos + 4) ≡ i → n ≤ maxPayload
+      → headerOf img pos ≡ done (header n i)
+  unfolding headerOf
+  header-reads n i h e f l = simp (le-ltb _ _ h, e, f, le-ltb maxPayload n l)
+
+  -- as answers: too short
+  pub header-short : length img - pos < 12 → headerAt img pos ≡ Short
+  unfolding headerAt
+  header-short h = ap headerBy (header-refuses-17 h)
+
+header-by : (a : HeaderAnswer) → headerBy (headerOutcome a) ≡ a
+header-by (Header h) = refl
+header-by Short = refl
+header-by TooLong = refl
+
+-- an answer is determined by its number and value
+pub header-determined : (a b : HeaderAnswer) → headerOutcome a ≡ headerOutcome b → a ≡ b
+header-determined a b e = sym (header-by a) ∙ ap headerBy e ∙ header-by b
+
+-- what `read_header` answers, by its contract, as the case that it is
+pub header-answer : (a : HeaderAnswer) (img : List ℕ) (pos : ℕ) → headerOutcome a ≡ headerOf img pos → a ≡ headerAt img pos
 unfolding headerAt
-header-good img pos n i h e f l = simp (le-ltb _ _ h, e, f, le-ltb maxPayload n l)
+header-answer a img pos e = sym (header-by a) ∙ ap headerBy e
 
 -- what a header that was read tells of its place
 pub record Readable (img : List ℕ) (pos n i : ℕ) : Type 0 where
@@ -104,13 +124,14 @@ pub record Readable (img : List ℕ) (pos n i : ℕ) : Type 0 where
   pub id-there : leAt 8 img (pos + 4) ≡ i
 
 pub readable : (img : List ℕ) (pos n i : ℕ) → headerAt img pos ≡ Header (header n i) → Readable img pos n i
-unfolding headerAt
+unfolding headerAt headerOf
 readable img pos n i e = go (ltb (length img - pos) 12) (ltb maxPayload (leAt 4 img pos)) refl refl e
   where
     go : (a b : Bool) → ltb (length img - pos) 12 ≡ a → ltb maxPayload (leAt 4 img pos) ≡ b
-        → pick a Short (pick b TooLong (Header (header (leAt 4 img pos) (leAt 8 img (pos + 4))))) ≡ Header (header n i) → Readable img pos n i
-    go true b ea eb h = absurd (let z : _≡_ {A = ℕ} 0 1 = cc in omega arith)
-    go false true ea eb h = absurd (let z : _≡_ {A = ℕ} 0 1 = cc in omega arith)
+        → headerBy (pick a (refused 17) (pick b (refused 18) (done (header (leAt 4 img pos) (leAt 8 img (pos + 4)))))) ≡ Header (header n i)
+        → Readable img pos n i
+    go true b ea eb h = zero-is-not-one (cc)
+    go false true ea eb h = zero-is-not-one (cc)
     go false false ea eb h =
         let same : header (leAt 4 img pos) (leAt 8 img (pos + 4)) ≡ header n i = cc in
         let l : leAt 4 img pos ≡ n = ap (λ (k : RecordHeader). k .length) same in
@@ -118,10 +139,10 @@ readable img pos n i e = go (ltb (length img - pos) 12) (ltb maxPayload (leAt 4 
         record { room = ltb-false _ _ ea; small = omega (arith, ltb-false maxPayload (leAt 4 img pos) eb); length-there = l; id-there = k }
 
 -- a record's bytes, wherever they stand, are read as its header: for any payload of at most 2^30 bytes and any id of 64 bits
-pub record-header : (id : ℕ) (p pre post : List ℕ) (at : ℕ) → at ≡ length pre → length p ≤ maxPayload → id < 2 ^ 64
-    → headerAt (pre ++ (recordBytes id p ++ post)) at ≡ Header (header (length p) id)
+pub record-reads : (id : ℕ) (p pre post : List ℕ) (at : ℕ) → at ≡ length pre → length p ≤ maxPayload → id < 2 ^ 64
+    → headerOf (pre ++ (recordBytes id p ++ post)) at ≡ done (header (length p) id)
 unfolding recordBytes
-record-header id p pre post at e small fits =
+record-reads id p pre post at e small fits =
     let tail : List ℕ = p ++ padding (length p) in
     let len4 : List ℕ = leBytes 4 (length p) in
     let img : List ℕ = pre ++ (recordBytes id p ++ post) in
@@ -137,7 +158,13 @@ record-header id p pre post at e small fits =
     let r8 : leAt 8 img (at + 4) ≡ id =
     ap (λ (l : List ℕ). leAt 8 l (at + 4)) two
     ∙ le-read 8 id (pre ++ len4) (tail ++ post) (at + 4) (rw (length-append, le-bytes-length) (omega arith)) (omega arith) in
-    header-good img at (length p) id (omega (arith, room-ge (length p))) r4 r8 small
+    header-reads img at (length p) id (omega (arith, room-ge (length p))) r4 r8 small
+
+-- the same, as an answer of `read_header`
+pub record-header : (id : ℕ) (p pre post : List ℕ) (at : ℕ) → at ≡ length pre → length p ≤ maxPayload → id < 2 ^ 64
+    → headerAt (pre ++ (recordBytes id p ++ post)) at ≡ Header (header (length p) id)
+unfolding headerAt
+record-header id p pre post at e small fits = ap headerBy (record-reads id p pre post at e small fits)
 
 -- a record's payload stands twelve bytes in
 pub record-payload : (id : ℕ) (p post : List ℕ) → part 12 (length p) (recordBytes id p ++ post) ≡ p

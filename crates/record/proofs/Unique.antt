@@ -1,28 +1,18 @@
--- For each public function of this crate: two answers, and two contents of each lent slice, that its contract allows are equal.
+-- For each public function of this crate: two answers, and two contents of the lent slice, that its contract allows are equal.
 -- Assumes nothing.
-use mathlib.Core.Path.{_≡_, _∙_, sym}
-use borrow.Fn.Kinds.{Dens, endedOf, resT}
-use contract.Lifetimes.{Lfts}
 use denote.Ref.{now}
-use denote.Triple.Clauses.{AtExit}
+use Rattle.lists.specs.Unique.{UniqueAnswer, UniqueMemory}
+use Rattle.lists.proofs.Unique.{unique}
+use Rattle.record.proofs.Record.{header-determined}
 use Rattle.record.proofs.read_header.Reads as read-header
-use Rattle.record.proofs.read_header.Kinds as read-header-kinds
 use Rattle.record.proofs.write_header.Reads as write-header
-use Rattle.record.proofs.write_header.Kinds as write-header-kinds
 use Rattle.record.proofs.header_number.Reads as header-number
-use Rattle.record.proofs.header_number.Kinds as header-number-kinds
 
--- `read_header`
-pub read-header-unique : (κs : Lfts 1) (a : Dens κs read-header-kinds.ps) (r r′ : resT read-header-kinds.r κs .Denot) (e e′ : AtExit (endedOf 1 read-header-kinds.ps read-header-kinds.r) κs)
-    → read-header.Learnt κs a r e → read-header.Learnt κs a r′ e′ → r ≡ r′
-read-header-unique κs a r r′ e e′ p q = p ∙ sym q
+pub read-header-unique : UniqueAnswer read-header.Learnt
+read-header-unique κs a r r′ e e′ p q = header-determined r r′ (unique p q)
 
--- `write_header`, which answers nothing: the slice
-pub write-header-unique : (κs : Lfts 1) (a : Dens κs write-header-kinds.ps) (r r′ : resT write-header-kinds.r κs .Denot) (e e′ : AtExit (endedOf 1 write-header-kinds.ps write-header-kinds.r) κs)
-    → write-header.Learnt κs a r e → write-header.Learnt κs a r′ e′ → now (e .0) ≡ now (e′ .0)
-write-header-unique κs a r r′ e e′ p q = p ∙ sym q
+pub write-header-unique : UniqueMemory write-header.Learnt (λ _ e. now (e .0))
+write-header-unique κs a r r′ e e′ = unique
 
--- `header_number`
-pub header-number-unique : (κs : Lfts 0) (a : Dens κs header-number-kinds.ps) (r r′ : resT header-number-kinds.r κs .Denot) (e e′ : AtExit (endedOf 0 header-number-kinds.ps header-number-kinds.r) κs)
-    → header-number.Learnt κs a r e → header-number.Learnt κs a r′ e′ → r ≡ r′
-header-number-unique κs a r r′ e e′ p q = p ∙ sym q
+pub header-number-unique : UniqueAnswer header-number.Learnt
+header-number-unique κs a r r′ e e′ = unique

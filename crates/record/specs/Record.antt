@@ -3,8 +3,9 @@
 use mathlib.Core.List.{List, [], _∷_, _++_}
 use Prim.Native.Nat.{ℕ, _+_, _-_}
 use lib.ListN.{length, replicate}
-use lib.Dec.{ltb}
-use Rattle.lists.specs.Choice.{_⇒_, first}
+use lib.Dec.{ltb, eqb}
+use Rattle.lists.specs.Choice.{pick, _⇒_, first}
+use Rattle.lists.specs.Outcome.{Outcome, refused, done, either}
 use Rattle.page.specs.Page.{paddedEnd}
 use Rattle.little_endian.specs.LittleEndian.{leAt, leBytes}
 use Rattle.record.specs.declared.RecordHeader.{RecordHeader}
@@ -29,14 +30,27 @@ recordBytes id payload =
     leBytes 4 (length payload)
     ++ (leBytes 8 id ++ (payload ++ replicate (recordRoom (length payload) - (12 + length payload)) 0))
 
--- what stands at a position of an image, read as a header
-unfoldable pub headerAt : List ℕ → ℕ → HeaderAnswer
-headerAt img pos =
-    first ((ltb (length img - pos) 12 ⇒ Short) ∷ (ltb maxPayload (leAt 4 img pos) ⇒ TooLong) ∷ [])
-    (Header (record { length = leAt 4 img pos; id = leAt 8 img (pos + 4) }))
+-- document 01's number, or the header, of each answer of `read_header`
+abbrev pub headerOutcome : HeaderAnswer → Outcome RecordHeader
+headerOutcome (Header h) = done h
+headerOutcome Short = refused 17
+headerOutcome TooLong = refused 18
 
--- document 01's number of each case: 17 short header, 18 header length above 2^30
+-- the number of a header that can't be read; 0 of one that can
 abbrev pub headerNumber : HeaderAnswer → ℕ
-headerNumber (Header h) = 0
-headerNumber Short = 17
-headerNumber TooLong = 18
+headerNumber answer = either (λ n. n) (λ h. 0) (headerOutcome answer)
+
+-- what stands at a position of an image, read as a header: 17 short header, 18 header length above 2^30
+unfoldable pub headerOf : List ℕ → ℕ → Outcome RecordHeader
+headerOf img pos =
+    first ((ltb (length img - pos) 12 ⇒ refused 17) ∷ (ltb maxPayload (leAt 4 img pos) ⇒ refused 18) ∷ [])
+    (done (record { length = leAt 4 img pos; id = leAt 8 img (pos + 4) }))
+
+-- the answer that an outcome belongs to
+abbrev pub headerBy : Outcome RecordHeader → HeaderAnswer
+headerBy (done h) = Header h
+headerBy (refused n) = pick (eqb n 17) Short TooLong
+
+-- the header at a position as an answer of `read_header`, for those who go on by its cases
+unfoldable pub headerAt : List ℕ → ℕ → HeaderAnswer
+headerAt img pos = headerBy (headerOf img pos)

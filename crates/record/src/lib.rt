@@ -2,13 +2,13 @@
 // `RecordHeaderMut` and `read_header` of the Rust, with the header as a value and not as a view of bytes.
 ghost use mathlib.Core.Path.{_≡_};
 ghost use Rattle.lists.specs.Splice.{splice};
-ghost use Rattle.record.specs.Record.{headerBytes, headerAt, headerNumber};
+ghost use Rattle.record.specs.Record.{headerBytes, headerOutcome, headerNumber, headerOf};
 use little_endian::U32At;
 use little_endian::U64At;
 
-const HEADER_SIZE: usize = 12;
+pub const HEADER_SIZE: usize = 12;
 
-const MAX_RECORD_PAYLOAD_SIZE: u32 = 1073741824;
+pub const MAX_RECORD_PAYLOAD_SIZE: u32 = 1073741824;
 
 pub struct RecordHeader {
     // of the payload, in bytes
@@ -26,7 +26,7 @@ pub enum HeaderAnswer {
 
 // The header at `pos` of an image; 12 bytes must stand there, whatever the length says.
 pub fn read_header(img: &[u8], pos: usize) -> HeaderAnswer
-    ensures { λ r. ⌜ r ≡ headerAt (now (img .entry)) pos ⌝ }
+    ensures { λ r. ⌜ headerOutcome r ≡ headerOf (now (img .entry)) pos ⌝ }
 {
     if img.len() < pos {
         return HeaderAnswer::Short;

@@ -10,7 +10,7 @@ use lib.Dec.{leb}
 use borrow.Author.Tests.{le-leb, lt-leb}
 use Rattle.lists.specs.Choice.{pick}
 use Rattle.lists.proofs.Cases.{by-order}
-use Rattle.seglog.specs.declared.Segment.{Segment}
+use Rattle.segment.specs.declared.Segment.{Segment}
 use Rattle.recovery.specs.Recovery.{holdsLive, keptOf}
 use Rattle.recovery.proofs.Walked.{Runs, endOf, Empties}
 
@@ -45,9 +45,9 @@ module _ (s e : ℕ) where
   kept-empty [] (z ∷ zs) some h = kept-early z zs (omega (arith, h .0)) ∙ kept-empty [] zs some (h .1)
   kept-empty (y ∷ ys) zs some h = ap (λ (l : List Segment). pick (holdsLive s e y) (y ∷ l) l) (kept-empty ys zs some h)
 
-  module _ (k n : ℕ) where
+  module _ (k c : ℕ) where
     -- behind e nothing is kept
-    kept-behind : (i b : ℕ) (gs : List Segment) → Runs k n i b gs → e < b → keptOf s e gs ≡ []
+    kept-behind : (i b : ℕ) (gs : List Segment) → Runs k c i b gs → e < b → keptOf s e gs ≡ []
     unfolding keptOf
     kept-behind i b [] h l = refl
     kept-behind i b (g ∷ gs) h l =
@@ -58,12 +58,12 @@ module _ (s e : ℕ) where
       pub hs : List Segment
       pub g : Segment
       pub is : gs ≡ hs ++ (g ∷ [])
-      pub runs : Runs k n i b (hs ++ (g ∷ []))
+      pub runs : Runs k c i b (hs ++ (g ∷ []))
       pub low : g .min ≤ e
       pub high : e ≤ g .max
 
     -- from a segment that begins at s or behind it
-    cut-from : (i b t : ℕ) (gs : List Segment) → Runs k n i b gs → endOf b gs ≡ t + 1 → s ≤ b → b ≤ e → e ≤ t → Cut i b (keptOf s e gs)
+    cut-from : (i b t : ℕ) (gs : List Segment) → Runs k c i b gs → endOf b gs ≡ t + 1 → s ≤ b → b ≤ e → e ≤ t → Cut i b (keptOf s e gs)
     cut-from i b t [] h top l m r = absurd (omega arith)
     cut-from i b t (g ∷ gs) h top l m r =
         let here = kept-here g gs (omega (arith, h .4)) (omega (arith, h .5)) in
@@ -100,7 +100,7 @@ module _ (s e : ℕ) where
       pub start-high : s ≤ firstMax (cut .hs) (cut .g)
 
     -- from any segment that begins at s or before it
-    pub cut-whole : (i b t : ℕ) (gs : List Segment) → Runs k n i b gs → endOf b gs ≡ t + 1 → 1 ≤ b → b ≤ s → s ≤ e → e ≤ t
+    pub cut-whole : (i b t : ℕ) (gs : List Segment) → Runs k c i b gs → endOf b gs ≡ t + 1 → 1 ≤ b → b ≤ s → s ≤ e → e ≤ t
         → Whole i (keptOf s e gs)
     cut-whole i b t [] h top o l m r = absurd (omega arith)
     cut-whole i b t (g ∷ gs) h top o l m r =

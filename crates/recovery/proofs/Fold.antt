@@ -9,8 +9,8 @@ use lib.ListN.{length, getD, take, drop, set, replicate, length-take}
 use lib.Seq.{take-suc, take-all, append-snoc, set-at}
 use borrow.Author.Tests.{le-leb, lt-leb}
 use Rattle.lists.specs.Choice.{pick}
-use Rattle.image_rows.specs.declared.ImageRow.{ImageRow}
-use Rattle.image_rows.specs.Rows.{noRow}
+use Rattle.segment.specs.declared.ImageRow.{ImageRow}
+use Rattle.segment.specs.Segment.{noRow}
 use Rattle.image_rows.specs.declared.Rows.{Rows}
 use Rattle.image_rows.specs.Rows.{noRows, tooMany, rowsOf, putRow}
 

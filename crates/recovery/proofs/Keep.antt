@@ -2,21 +2,21 @@
 use mathlib.Core.Path.{_≡_, refl, sym, ap, _∙_}
 use mathlib.Core.Bool.{Bool, true, false}
 use mathlib.Core.List.{List, [], _∷_, _++_}
-use Prim.Native.Nat.{ℕ, zero, suc, _+_, _-_, _*_, _≤_, _<_}
-use native.Mathlib.Nat.{mul-le-mul}
+use Prim.Native.Nat.{ℕ, suc, _+_, _-_, _≤_, _<_}
 use native.Mathlib.Numerals.{add-one}
 use native.Mathlib.Omega.{arith}
 use lib.ListN.{length, getD, take, set, replicate, length-append, length-take, List·getD-append}
 use lib.Seq.{take-suc, take-all, set-at}
 use Rattle.lists.specs.Choice.{pick}
-use Rattle.lists.specs.Splice.{splice}
-use Rattle.lists.proofs.Cases.{by-test}
-use Rattle.seglog.specs.declared.Segment.{Segment}
-use Rattle.seglog.specs.Log.{noSegment, headOf, frontOf}
+use Rattle.segment.specs.declared.Segment.{Segment}
+use Rattle.seglog.specs.Log.{headOf, frontOf}
+use Rattle.segment.specs.Segment.{noSegment, endedAt}
 use Rattle.seglog.proofs.View.{entriesOf, set-new, set-head, ends-with}
 use Rattle.recovery.specs.declared.kept.Kept.{Kept}
-use Rattle.recovery_walk.specs.declared.Scanned.{Scanned}
-use Rattle.recovery.specs.Recovery.{holdsLive, keptOf, closedAt}
+use Rattle.segment.specs.Cut.{truncatedArea}
+use Rattle.segment.proofs.Cut.{truncated-padded}
+use Rattle.recovery_walk.specs.Scan.{liveCount}
+use Rattle.recovery.specs.Recovery.{holdsLive, keptOf}
 use Rattle.recovery.specs.Kept.{keptIn, ClosePre, CloseDid}
 
 module _ (s e : ℕ) where
@@ -127,62 +127,39 @@ set-last gs x h =
 pub count-last : (gs : List Segment) (x : Segment) → 0 < length gs → length gs - 1 + 1 ≡ length (frontOf gs ++ (x ∷ []))
 count-last gs x h = simp (length-append, length-take) (omega arith)
 
--- a slot's start is far below 2^64
-pub slot-room : (slot c : ℕ) → slot < 64 → c ≤ 2147483648 → slot * c ≤ 137438953472
-slot-room slot c h g =
-    let most : slot ≤ 64 = omega arith in mul-le-mul most g
+-- ---- closing, on plain values: the kept segments gs stand in their entries, and the last one is closed at x
 
--- ---- closing, on plain values: the kept segments gs stand in their entries, x is written over the last one
-
-module _ (k c m s e n : ℕ) (found : Scanned) (gs : List Segment) (kept : Kept)
-    (is : kept ≡ record { count = length gs; segs = entriesOf gs }) (pre : ClosePre c n (found .scan .head) gs) where
+module _ (k c m s e n x : ℕ) (area : List ℕ) (gs : List Segment) (kept : Kept)
+    (is : kept ≡ record { count = length gs; segs = entriesOf gs }) (pre : ClosePre c s e n x area gs) where
   abbrev last-entry : Segment
   last-entry = getD (kept .segs) (kept .count - 1) noSegment
 
-  pub last-is : last-entry ≡ headOf gs
+  last-is : last-entry ≡ headOf gs
   last-is = ap (λ (q : Kept). getD (q .segs) (q .count - 1) noSegment) is ∙ head-entry gs (pre .some)
 
-  -- the last one's slot begins far below 2^64, and its image and padded end lie near
-  pub record CloseRoom : Type 0 where
-    pub slot : last-entry .slot * c ≤ 137438953472
-    pub size : last-entry .size ≤ 2147483648
-    pub end : found .scan .head ≤ 2147483648
-
-  pub close-room : CloseRoom
-  close-room =
-      let g = last-is in
-      let slot : last-entry .slot < 64 = omega (arith, ap (λ (z : Segment). z .slot) g, pre .slot) in
-      record {
-        slot = slot-room (last-entry .slot) c slot (pre .small);
-        size = omega (arith, ap (λ (z : Segment). z .size) g, pre .size, pre .small);
-        end = omega (arith, pre .end, pre .small);
-      }
-
-  pub close-did : (area area′ : List ℕ) (x : Segment) → x ≡ closedAt last-entry e (found .scan .head)
-      → area′
-      ≡ splice (last-entry .slot * c + last-entry .size)
-      (replicate (last-entry .slot * c + found .scan .head - (last-entry .slot * c + last-entry .size)) 0) area
-      → CloseDid k c m s e found gs area area′ (record {
+  -- the log and the area
+  pub close-did : (area′ : List ℕ) (y : Segment) → y ≡ endedAt last-entry e x
+      → area′ ≡ truncatedArea area c (last-entry .slot) (last-entry .size) x
+      → CloseDid k c m s e x gs area area′ (record {
         refusal = 0;
-        rows = found .scan .live;
-        log = record { k = k; c = c; m = m; start = s; end = e; count = kept .count - 1 + 1; segs = set (kept .segs) (kept .count - 1) x };
+        rows = e - s + 1;
+        log = record { k = k; c = c; m = m; start = s; end = e; count = kept .count - 1 + 1; segs = set (kept .segs) (kept .count - 1) y };
       })
-  close-did area area′ x is-x wrote =
-      let h : ℕ = found .scan .head in
-      let y : Segment = closedAt (headOf gs) e h in
-      let same : x ≡ y = is-x ∙ ap (λ (z : Segment). closedAt z e h) last-is in
-      let many : kept .count - 1 + 1 ≡ length (frontOf gs ++ (y ∷ [])) = ap (λ (q : Kept). q .count - 1 + 1) is ∙ count-last gs y
-      (pre .some) in
-      let put : set (kept .segs) (kept .count - 1) x ≡ entriesOf (frontOf gs ++ (y ∷ [])) =
-      ap (λ (q : Kept). set (q .segs) (q .count - 1) x) is ∙ set-last gs x (pre .some)
-      ∙ ap (λ (z : Segment). entriesOf (frontOf gs ++ (z ∷ []))) same in
-      let zeros : last-entry .slot * c + h - (last-entry .slot * c + last-entry .size) ≡ h - last-entry .size = omega arith in
+  close-did area′ y is-y wrote =
+      let z : Segment = endedAt (headOf gs) e x in
+      let same : y ≡ z = is-y ∙ ap (λ (g : Segment). endedAt g e x) last-is in
+      let many : kept .count - 1 + 1 ≡ length (frontOf gs ++ (z ∷ [])) =
+      ap (λ (q : Kept). q .count - 1 + 1) is ∙ count-last gs z (pre .some) in
+      let put : set (kept .segs) (kept .count - 1) y ≡ entriesOf (frontOf gs ++ (z ∷ [])) =
+      ap (λ (q : Kept). set (q .segs) (q .count - 1) y) is ∙ set-last gs y (pre .some)
+      ∙ ap (λ (g : Segment). entriesOf (frontOf gs ++ (g ∷ []))) same in
+      let live : e - s + 1 ≡ liveCount s e = omega (arith, pre .range .order) in
       record {
         answer = λ j. record {
           refusal = 0;
-          rows = found .scan .live;
+          rows = live j;
           log = record { k = k; c = c; m = m; start = s; end = e; count = many j; segs = put j };
         };
-        bytes = wrote ∙ ap (λ (z : ℕ). splice (last-entry .slot * c + last-entry .size) (replicate z 0) area) zeros
-            ∙ ap (λ (z : Segment). splice (z .slot * c + z .size) (replicate (h - z .size) 0) area) last-is;
+        bytes = wrote ∙ ap (λ (g : Segment). truncatedArea area c (g .slot) (g .size) x) last-is
+            ∙ truncated-padded area c x (headOf gs) (pre .slot) (pre .end);
       }

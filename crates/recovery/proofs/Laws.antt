@@ -1,6 +1,5 @@
 -- What holds of every accepted recovery, whatever bytes the images hold: its log is well shaped and fits the area; its index rows are
--- those of s to e, in order; and no byte of the area changes but the head's missing padding. And two answers that the contract allows
--- are equal. Assumes nothing.
+-- those of s to e, in order; and no byte of the area changes but the head's missing padding. Assumes nothing.
 use mathlib.Core.Path.{_≡_, refl, sym, ap, subst, _∙_}
 use mathlib.Core.Bool.{Bool, true, false, _&&_, not}
 use mathlib.Core.List.{List, [], _∷_, _++_}
@@ -12,7 +11,7 @@ use borrow.Author.Tests.{eq-eqb, eqb-true, eqb-false, ltb-false, le-leb, leb-tru
 use Rattle.lists.specs.Choice.{pick, _⇒_, first}
 use Rattle.lists.specs.Splice.{part, splice, slotOf}
 use Rattle.lists.proofs.Splice.{splice-length, splice-before, splice-behind, splice-slot}
-use Rattle.seglog.specs.declared.Segment.{Segment}
+use Rattle.segment.specs.declared.Segment.{Segment}
 use Rattle.seglog.specs.Log.{
   View,
   emptyOf,
@@ -30,50 +29,43 @@ use Rattle.seglog.specs.Log.{
   endsOf,
 }
 use Rattle.seglog.specs.New.{roomyOf}
-use Rattle.lists.proofs.Bools.{and-both, both-and}
+use Rattle.lists.proofs.Bools.{zero-is-not-one, and-both, both-and}
 use Rattle.seglog.proofs.Fit.{sizes-are}
 use Rattle.seglog.proofs.View.{plain-log, view-log, head-snoc}
-use Rattle.image_rows.specs.declared.ImageRow.{ImageRow}
-use Rattle.recovery_walk.specs.declared.Scan.{Scan}
-use Rattle.recovery_walk.specs.Images as Walk
-use Rattle.recovery_walk.specs.Images.{Outcome, images, startOf}
+use Rattle.segment.specs.declared.ImageRow.{ImageRow}
+use Rattle.lists.specs.Outcome.{Outcome, refused, done}
+use Rattle.lists.proofs.Outcome.{done-injective}
+use Rattle.walk.specs.declared.Scan.{Scan}
+use Rattle.walk.specs.Judging.{startOf}
+use Rattle.recovery_walk.specs.Images.{Found, walked, images}
 use Rattle.recovery_walk.specs.Rows.{rowsAll, penOf, RowIds}
-use Rattle.recovery_walk.specs.Scan.{scanOf}
+use Rattle.recovery_walk.specs.Scan.{liveCount, scanOf}
 use Rattle.recovery_walk.proofs.RowIds.{Accepted, scan-accepted, scan-rows}
-use Rattle.recovery.specs.declared.Recovered.{Recovered}
 use Rattle.image_rows.specs.ImageRows.{sortRows, rowsFit, lowestZero, oneApart}
-use Rattle.recovery.specs.Recovery.{
-  Recovery,
-  refused,
-  recovered,
-  keptOf,
-  closedAt,
-  paddedHead,
-  outcomeOf,
-  scanned,
-  oneZero,
-  recoveryOf,
-  RecoveryDid,
-}
+use Rattle.recovery.specs.Recovery.{Restored, Recovery, recovered, keptOf, outcomeOf, scanned, oneZero, recoveryOf}
+use Rattle.segment.specs.Segment.{endedAt, paddedTo}
 use Rattle.recovery.specs.Kept.{closedView}
-use Rattle.image_rows.proofs.Order.{sort-inside, sort-apart}
-use Rattle.image_rows.proofs.Ids.{Ids, ids-are}
-use Rattle.image_rows.proofs.Ways.{fit-is}
+use Rattle.image_rows.proofs.ImageRows.{sort-inside, sort-apart, Ids, ids-are, fit-is}
 use Rattle.recovery.proofs.Shaped.{images-slots, slots-apart, kept-apart, closed-shaped}
 use Rattle.recovery.proofs.Ways.{Roomy, roomy-is}
 use Rattle.recovery.proofs.Scanned.{Keeps, scan-keeps, runs-last}
 
--- ---- two answers that the contract of `recover` allows are equal
+-- ---- an accepted recovery leaves one log, one area and one list of words
 
-pub record Same (r r′ : Recovered) (area area′ index index′ : List ℕ) : Type 0 where
-  pub answer : r ≡ r′
-  pub bytes : area ≡ area′
-  pub words : index ≡ index′
+pub record OneLeft (a b : View) (area area′ words words′ : List ℕ) : Type 0 where
+  pub one-log : a ≡ b
+  pub one-area : area ≡ area′
+  pub one-words : words ≡ words′
 
-pub recover-unique : (o : Recovery) (area index : List ℕ) (r r′ : Recovered) (area₁ area₂ index₁ index₂ : List ℕ)
-    → RecoveryDid o area index r area₁ index₁ → RecoveryDid o area index r′ area₂ index₂ → Same r r′ area₁ area₂ index₁ index₂
-recover-unique o area index r r′ area₁ area₂ index₁ index₂ p q =
-    record { answer = p .answer ∙ sym (q .answer); bytes = p .bytes ∙ sym (q .bytes); words = p .words ∙ sym (q .words) }
+pub recovered-same : {a b : View} {area area′ words words′ : List ℕ} → recovered a area words ≡ recovered b area′ words′
+    → OneLeft a b area area′ words words′
+recovered-same e =
+    let both = done-injective e in
+    record {
+      one-log = ap (λ (x : Restored). x .log) both;
+      one-area = ap (λ (x : Restored). x .area) both;
+      one-words = ap (λ (x : Restored). x .words) both;
+    }
 
 -- a well-shaped log lists 64 segments at most
 shaped-few : (a : View) → shapedOf a ≡ true → length (a .segs) ≤ 64
@@ -112,12 +104,12 @@ module _ (k c m : ℕ) (area : List ℕ) (rows : List ImageRow) (s e room : ℕ)
           ((not x ⇒ refused 1) ∷ (o ⇒ refused 11) ∷ (t ⇒ refused 12) ∷ (not f ⇒ refused 13) ∷ (l ⇒ refused 14) ∷ (not p ⇒ refused 15)
           ∷ (z ⇒ recovered (emptyOf k c m) area []) ∷ []) (scanned k c m area (sortRows rows) s e room)
           ≡ recovered a area′ words → P
-      go false o t f l p z ex et ef el ep ez w = absurd (let y : _≡_ {A = ℕ} 0 1 = cc in omega arith)
-      go true true t f l p z ex et ef el ep ez w = absurd (let y : _≡_ {A = ℕ} 0 1 = cc in omega arith)
-      go true false true f l p z ex et ef el ep ez w = absurd (let y : _≡_ {A = ℕ} 0 1 = cc in omega arith)
-      go true false false false l p z ex et ef el ep ez w = absurd (let y : _≡_ {A = ℕ} 0 1 = cc in omega arith)
-      go true false false true true p z ex et ef el ep ez w = absurd (let y : _≡_ {A = ℕ} 0 1 = cc in omega arith)
-      go true false false true false false z ex et ef el ep ez w = absurd (let y : _≡_ {A = ℕ} 0 1 = cc in omega arith)
+      go false o t f l p z ex et ef el ep ez w = zero-is-not-one (cc)
+      go true true t f l p z ex et ef el ep ez w = zero-is-not-one (cc)
+      go true false true f l p z ex et ef el ep ez w = zero-is-not-one (cc)
+      go true false false false l p z ex et ef el ep ez w = zero-is-not-one (cc)
+      go true false false true true p z ex et ef el ep ez w = zero-is-not-one (cc)
+      go true false false true false false z ex et ef el ep ez w = zero-is-not-one (cc)
       go true false false true false true true ex et ef el ep ez w =
           empty (record { roomy = ex; order = ltb-false e s et; fit = ef; low = el; apart = ep }) (eqb-true s 0 ez) w
       go true false false true false true false ex et ef el ep ez w =
@@ -129,23 +121,25 @@ module _ (k c m : ℕ) (area : List ℕ) (rows : List ImageRow) (s e room : ℕ)
   pub record Left (a : View) (area′ words : List ℕ) : Type 0 where
     pub d : Scan
     pub gs : List Segment
-    pub out : scanOf area c s e (sortRows rows) room ≡ Walk.walked d gs
-    pub view : a ≡ closedView k c m s e (d .head) (keptOf s e gs)
-    pub bytes : area′ ≡ paddedHead c area (headOf (keptOf s e gs)) (d .head)
+    pub out : scanOf area c s e (sortRows rows) room ≡ walked d gs
+    pub view : a ≡ closedView k c m s e (d .«end_of_e») (keptOf s e gs)
+    pub bytes : area′ ≡ paddedTo c area (headOf (keptOf s e gs)) (d .«end_of_e»)
     pub index : words ≡ rowsAll area c s e (sortRows rows) penOf
 
   left : (a : View) (area′ words : List ℕ) → scanned k c m area (sortRows rows) s e room ≡ recovered a area′ words → Left a area′ words
   left a area′ words q = by (scanOf area c s e (sortRows rows) room) refl q
     where
-      by : (o : Outcome) → scanOf area c s e (sortRows rows) room ≡ o → outcomeOf k c m area s e (sortRows rows) o ≡ recovered a area′ words
-          → Left a area′ words
-      by (Walk.refused n) p w = absurd (let y : _≡_ {A = ℕ} 0 1 = cc in omega arith)
-      by (Walk.walked d gs) p w = record { d = d; gs = gs; out = p; view = (cc); bytes = (cc); index = (cc) }
+      by : (o : Outcome Found) → scanOf area c s e (sortRows rows) room ≡ o
+          → outcomeOf k c m area s e (sortRows rows) o ≡ recovered a area′ words → Left a area′ words
+      by (refused n) p w = zero-is-not-one (cc)
+      by (done (d, gs)) p w =
+          let same = recovered-same w in
+          record { d = d; gs = gs; out = p; view = sym (same .one-log); bytes = sym (same .one-area); index = sym (same .one-words) }
 
   module _ (p : Passed) (some : s ≡ 0 → ⊥) (a : View) (area′ words : List ℕ) (w : Left a area′ words) where
-    went : Accepted room (images area c s e (sortRows rows) false startOf) (w .d) (w .gs)
+    went : Accepted s e room (images area c s e (sortRows rows) startOf) (w .d) (w .gs)
     unfolding scanOf
-    went = scan-accepted room (images area c s e (sortRows rows) false startOf) (w .d) (w .gs) (w .out)
+    went = scan-accepted s e room (images area c s e (sortRows rows) startOf) (w .d) (w .gs) (w .out)
 
     sizes : Roomy k c m (length area)
     sizes = roomy-is k c m (length area) (p .roomy)
@@ -153,7 +147,7 @@ module _ (k c m : ℕ) (area : List ℕ) (rows : List ImageRow) (s e room : ℕ)
     ids : Ids (sortRows rows)
     ids = ids-are (sortRows rows) (p .low) (p .apart)
 
-    keeps : Keeps k c s e (ids .i) (w .d .head) (w .gs)
+    keeps : Keeps k c s e (ids .i) (w .d .«end_of_e») (w .gs)
     keeps =
         scan-keeps area k c s e (ids .i) room (sortRows rows) (w .d) (w .gs) (sizes .all) (sizes .obey .whole-pages) (p .order) some
         (sort-inside k c rows (fit-is k c rows (p .fit) .inside)) (ids .from) went
@@ -162,7 +156,7 @@ module _ (k c m : ℕ) (area : List ℕ) (rows : List ImageRow) (s e room : ℕ)
     own : apartOf (keptOf s e (w .gs)) ≡ true
     own =
         kept-apart s e (w .gs)
-        (slots-apart (sortRows rows) (w .gs) (images-slots area c s e (sortRows rows) false startOf (w .d) (w .gs) (went .walk))
+        (slots-apart (sortRows rows) (w .gs) (images-slots area c s e (sortRows rows) startOf (w .d) (w .gs) (went .walk))
         ∙ sort-apart rows (fit-is k c rows (p .fit) .apart))
 
     scan-fits : fitsOf a area′ ≡ true
@@ -170,7 +164,7 @@ module _ (k c m : ℕ) (area : List ℕ) (rows : List ImageRow) (s e room : ℕ)
     scan-fits =
         let shaped : shapedOf a ≡ true =
         ap shapedOf (w .view)
-        ∙ closed-shaped k c m s e (ids .i) (w .d .head) (keptOf s e (w .gs)) (sizes .sizes) (ids .some) (p .order) (keeps .whole)
+        ∙ closed-shaped k c m s e (ids .i) (w .d .«end_of_e») (keptOf s e (w .gs)) (sizes .sizes) (ids .some) (p .order) (keeps .whole)
         (keeps .head) own in
         let long : length area′ ≡ a .k * a .c =
         ap length (w .bytes) ∙ splice-length _ _ area ∙ sizes .all ∙ sym (ap (λ (v : View). v .k * v .c) (w .view)) in
@@ -184,10 +178,9 @@ module _ (k c m : ℕ) (area : List ℕ) (rows : List ImageRow) (s e room : ℕ)
       passed a area′ words q
       (λ p z w.
       let sizes = roomy-is k c m (length area) (p .roomy) in
-      let view : emptyOf k c m ≡ a = cc in
-      let bytes : area ≡ area′ = cc in
-      subst (λ (v : View). fitsOf v area′ ≡ true) view
-      (subst (λ (l : List ℕ). fitsOf (emptyOf k c m) l ≡ true) bytes
+      let same = recovered-same w in
+      subst (λ (v : View). fitsOf v area′ ≡ true) (same .one-log)
+      (subst (λ (l : List ℕ). fitsOf (emptyOf k c m) l ≡ true) (same .one-area)
       (simp (sizes .sizes, le-leb 0 k (omega arith), eq-eqb (length area) (k * c) (sizes .all)))))
       (λ p some w. scan-fits p some a area′ words (left a area′ words w))
 
@@ -202,13 +195,14 @@ module _ (k c m : ℕ) (area : List ℕ) (rows : List ImageRow) (s e room : ℕ)
 
   -- "Rows are exactly s..e in order": there are e - s + 1 of them, row i with the id s + i
   pub recovered-rows : (a : View) (area′ words : List ℕ) → (s ≡ 0 → ⊥) → recoveryOf k c m area rows s e room ≡ recovered a area′ words
-      → RowIds s (e + 1 - s) words
+      → RowIds s (liveCount s e) words
   recovered-rows a area′ words some q =
       passed a area′ words q (λ p z w. absurd (some z))
       (λ p n w.
       let l = left a area′ words w in
-      subst (RowIds s (e + 1 - s)) (sym (l .index))
-      (scan-rows area c s e (sortRows rows) room (l .d) (l .gs) (omega (arith, some)) (l .out) .rows))
+      let g = went p n a area′ words l in
+      subst (RowIds s (liveCount s e)) (sym (l .index))
+      (scan-rows area c s e (sortRows rows) (l .d) (l .gs) (omega (arith, some)) (g .walk) (g .start) (g .end)))
 
   -- ---- which bytes change
 
@@ -240,13 +234,13 @@ module _ (k c m : ℕ) (area : List ℕ) (rows : List ImageRow) (s e room : ℕ)
           let is : g ≡ cut .g = ap headOf (cut .is) ∙ head-snoc (cut .hs) (cut .g) in
           let last = runs-last k c (kept .whole .j) (kept .whole .b) (cut .hs) (cut .g) (cut .runs) in
           let size : g .size ≤ c = omega (arith, ap (λ (z : Segment). z .size) is, last .1) in
-          let x : ℕ = w .d .head in
+          let x : ℕ = w .d .«end_of_e» in
           let fits : x ≤ c = kept .head .fits in
           let zeros : List ℕ = replicate (x - g .size) 0 in
           let long : length zeros ≡ x - g .size = length-replicate {A = ℕ} (x - g .size) 0 in
           let at : ℕ = g .slot * c + g .size in
-          let closed : headOf (a .segs) ≡ closedAt g e x =
-          ap (λ (v : View). headOf (v .segs)) (w .view) ∙ head-snoc (frontOf (keptOf s e (w .gs))) (closedAt g e x) in
+          let closed : headOf (a .segs) ≡ endedAt g e x =
+          ap (λ (v : View). headOf (v .segs)) (w .view) ∙ head-snoc (frontOf (keptOf s e (w .gs))) (endedAt g e x) in
           let end : headOf (a .segs) .size ≡ x = ap (λ (z : Segment). z .size) closed in
           record {
             slot = g .slot;
@@ -266,6 +260,5 @@ module _ (k c m : ℕ) (area : List ℕ) (rows : List ImageRow) (s e room : ℕ)
       → (a ≡ emptyOf k c m) × (area′ ≡ area) × (words ≡ [])
   recovered-empty a area′ words none q =
       passed a area′ words q
-      (λ p z w. let view : emptyOf k c m ≡ a = cc in let bytes : area ≡ area′ = cc in let nil : [] ≡ words = cc in
-      (sym view, sym bytes, sym nil))
+      (λ p z w. let same = recovered-same w in (sym (same .one-log), sym (same .one-area), sym (same .one-words)))
       (λ p n w. absurd (n none))

@@ -6,11 +6,11 @@ use native.Mathlib.Omega.{arith}
 use lib.ListN.{length, take, replicate}
 use lib.Seq.{take-at, take-length, length-take-le}
 use Rattle.lists.proofs.Cases.{by-order}
-use Rattle.image_rows.specs.declared.ImageRow.{ImageRow}
-use Rattle.image_rows.specs.Rows.{noRow}
+use Rattle.segment.specs.declared.ImageRow.{ImageRow}
+use Rattle.segment.specs.Segment.{noRow}
 use Rattle.image_rows.specs.Rows.{rowsOf, listedOf}
 use Rattle.recovery.specs.Recovery.{recoveryOf}
-use Rattle.image_rows.proofs.Tests.{fit-many}
+use Rattle.image_rows.proofs.ImageRows.{fit-many}
 use Rattle.recovery.proofs.Fold.{upTo, up-all, up-many}
 
 -- few rows are those of their array

@@ -1,6 +1,6 @@
 -- Every accepted recovery is well shaped, whatever bytes the images hold. Assumes nothing.
 use mathlib.Core.Path.{_≡_, refl, sym, ap, subst, _∙_}
-use mathlib.Core.Bool.{Bool, true, false, _&&_}
+use mathlib.Core.Bool.{Bool, true, false, _&&_, not}
 use mathlib.Core.List.{List, [], _∷_, _++_}
 use Prim.Native.Nat.{ℕ, suc, _+_, _-_, _*_, _%_, _≤_, _<_}
 use native.Mathlib.Omega.{arith}
@@ -8,18 +8,21 @@ use lib.ListN.{length}
 use lib.Dec.{eqb, leb}
 use borrow.Author.Tests.{eq-eqb, le-leb}
 use Rattle.lists.specs.Choice.{pick}
-use Rattle.seglog.specs.declared.Segment.{Segment}
+use Rattle.segment.specs.declared.Segment.{Segment}
 use Rattle.seglog.specs.Log.{View, headOf, frontOf, freshIn, apartOf, nextOf, chainOf, endsOf, sizesOf, shapedOf, fitsOf}
 use Rattle.lists.proofs.Bools.{and-both, both-and}
 use Rattle.seglog.proofs.Fit.{SegmentGood, ChainGood, is-chain, chain-below}
 use Rattle.seglog.proofs.Slots.{Fresh, fresh-cons, cons-fresh, fresh-snoc, snoc-fresh, apart-snoc, snoc-apart, pigeons}
 use Rattle.seglog.proofs.View.{front-snoc, head-snoc}
-use Rattle.image_rows.specs.declared.ImageRow.{ImageRow}
-use Rattle.recovery_walk.specs.declared.Scan.{Scan}
-use Rattle.recovery_walk.specs.Images.{walked, images, filledOf}
-use Rattle.recovery_walk.proofs.ImageCases.{first-walked}
-use Rattle.image_rows.specs.ImageRows.{freshRow, rowsApart}
-use Rattle.recovery.specs.Recovery.{holdsLive, keptOf, closedAt}
+use Rattle.segment.specs.declared.ImageRow.{ImageRow}
+use Rattle.walk.specs.declared.Scan.{Scan}
+use Rattle.recovery_walk.specs.Images.{walked, images}
+use Rattle.recovery_walk.proofs.Images.{walked-same, first-walked}
+use Rattle.lists.specs.Each.{all}
+use Rattle.lists.specs.Distinct.{fresh, distinct}
+use Rattle.image_rows.specs.ImageRows.{rowsApart}
+use Rattle.recovery.specs.Recovery.{holdsLive, keptOf}
+use Rattle.segment.specs.Segment.{endedAt}
 use Rattle.recovery.specs.Kept.{closedView}
 use Rattle.recovery.proofs.Walked.{HeadGood, Runs}
 use Rattle.recovery.proofs.Cut.{Cut, Whole, firstMax}
@@ -34,13 +37,13 @@ SlotsOf (r ∷ rs) [] = ⊥
 SlotsOf (r ∷ rs) (g ∷ gs) = (g .slot ≡ r .slot) × SlotsOf rs gs
 
 -- an accepted walk gives a segment for each row
-pub images-slots : (area : List ℕ) (n s e : ℕ) (rs : List ImageRow) (gap : Bool) (c d : Scan) (gs : List Segment)
-    → images area n s e rs gap c ≡ walked d gs → SlotsOf rs gs
+pub images-slots : (area : List ℕ) (c s e : ℕ) (rs : List ImageRow) (w d : Scan) (gs : List Segment)
+    → images area c s e rs w ≡ walked d gs → SlotsOf rs gs
 unfolding images
-images-slots area n s e [] gap c d gs q = let none : [] ≡ gs = cc in subst (SlotsOf []) none tt
-images-slots area n s e (r ∷ rs) gap c d gs q =
-    let f = first-walked area n s e r rs gap c d gs q in
-    subst (SlotsOf (r ∷ rs)) (sym (f .segments)) (refl, images-slots area n s e rs (eqb (r .size) 0) (f .state) d (f .later) (f .on))
+images-slots area c s e [] w d gs q = subst (SlotsOf []) (walked-same q .1) tt
+images-slots area c s e (r ∷ rs) w d gs q =
+    let f = first-walked area c s e r w rs d gs q in
+    subst (SlotsOf (r ∷ rs)) (sym (f .segments)) (refl, images-slots area c s e rs (f .state) d (f .later) (f .on))
 
 pub slots-length : (rs : List ImageRow) (gs : List Segment) → SlotsOf rs gs → length gs ≡ length rs
 slots-length [] [] h = refl
@@ -48,23 +51,26 @@ slots-length [] (g ∷ gs) h = absurd h
 slots-length (r ∷ rs) [] h = absurd h
 slots-length (r ∷ rs) (g ∷ gs) h = ap suc (slots-length rs gs (h .1))
 
-slots-fresh : (x : ℕ) (rs : List ImageRow) (gs : List Segment) → SlotsOf rs gs → freshIn x gs ≡ freshRow x rs
-unfolding freshIn freshRow
+slots-fresh : (x : ℕ) (rs : List ImageRow) (gs : List Segment) → SlotsOf rs gs → freshIn x gs ≡ fresh (λ r. r .slot) x rs
+unfolding freshIn all
 slots-fresh x [] [] h = refl
 slots-fresh x [] (g ∷ gs) h = absurd h
 slots-fresh x (r ∷ rs) [] h = absurd h
 slots-fresh x (r ∷ rs) (g ∷ gs) h =
-    ap (λ (y : ℕ). pick (eqb x y) false (freshIn x gs)) (h .0) ∙ ap (λ (b : Bool). pick (eqb x (r .slot)) false b)
-    (slots-fresh x rs gs (h .1))
+    ap (λ (y : ℕ). pick (eqb x y) false (freshIn x gs)) (h .0) ∙ go (eqb x (r .slot)) (slots-fresh x rs gs (h .1))
+  where
+    go : (b : Bool) → freshIn x gs ≡ fresh (λ r. r .slot) x rs → pick b false (freshIn x gs) ≡ not b && fresh (λ r. r .slot) x rs
+    go true e = refl
+    go false e = e
 
 pub slots-apart : (rs : List ImageRow) (gs : List Segment) → SlotsOf rs gs → apartOf gs ≡ rowsApart rs
-unfolding apartOf rowsApart
+unfolding apartOf distinct
 slots-apart [] [] h = refl
 slots-apart [] (g ∷ gs) h = absurd h
 slots-apart (r ∷ rs) [] h = absurd h
 slots-apart (r ∷ rs) (g ∷ gs) h =
-    ap (λ (b : Bool). b && apartOf gs) (slots-fresh (g .slot) rs gs (h .1)) ∙ ap (λ (y : ℕ). freshRow y rs && apartOf gs) (h .0)
-    ∙ ap (λ (b : Bool). freshRow (r .slot) rs && b) (slots-apart rs gs (h .1))
+    ap (λ (b : Bool). b && apartOf gs) (slots-fresh (g .slot) rs gs (h .1)) ∙ ap (λ (y : ℕ). fresh (λ r. r .slot) y rs && apartOf gs) (h .0)
+    ∙ ap (λ (b : Bool). fresh (λ r. r .slot) (r .slot) rs && b) (slots-apart rs gs (h .1))
 
 -- what is kept has slots of its own
 kept-fresh : (s e x : ℕ) (gs : List Segment) → freshIn x gs ≡ true → freshIn x (keptOf s e gs) ≡ true
@@ -96,11 +102,11 @@ last-apart hs g x q h =
 -- ---- the chain
 
 -- segments that run on from each other are a chain
-runs-chain : (k n i b : ℕ) (gs : List Segment) → 1 ≤ i → 1 ≤ b → Runs k n i b gs → chainOf k n gs ≡ true
+runs-chain : (k c i b : ℕ) (gs : List Segment) → 1 ≤ i → 1 ≤ b → Runs k c i b gs → chainOf k c gs ≡ true
 unfolding chainOf nextOf
-runs-chain k n i b [] hi hb h = refl
-runs-chain k n i b (g ∷ gs) hi hb h =
-    is-chain k n g gs
+runs-chain k c i b [] hi hb h = refl
+runs-chain k c i b (g ∷ gs) hi hb h =
+    is-chain k c g gs
     (record {
       good = record {
         some-id = omega (arith, h .0);
@@ -111,46 +117,46 @@ runs-chain k n i b (g ∷ gs) hi hb h =
         order = omega (arith, h .4, h .5);
       };
       next = next gs (h .6);
-      rest = runs-chain k n (i + 1) (g .max + 1) gs (omega arith) (omega arith) (h .6);
+      rest = runs-chain k c (i + 1) (g .max + 1) gs (omega arith) (omega arith) (h .6);
     })
   where
-    next : (gs : List Segment) → Runs k n (i + 1) (g .max + 1) gs → nextOf g gs ≡ true
+    next : (gs : List Segment) → Runs k c (i + 1) (g .max + 1) gs → nextOf g gs ≡ true
     next [] r = refl
     next (x ∷ xs) r =
         both-and (eqb (x .id) (g .id + 1)) (eqb (x .min) (g .max + 1)) (eq-eqb _ _ (r .0 ∙ ap (λ (y : ℕ). y + 1) (sym (h .0))))
         (eq-eqb _ _ (r .4))
 
 -- the last of them closed at e
-runs-closed : (k n i b e x : ℕ) (hs : List Segment) (g : Segment) → 1 ≤ x → x ≤ n → g .min ≤ e → Runs k n i b (hs ++ (g ∷ []))
-    → Runs k n i b (hs ++ (closedAt g e x ∷ []))
-runs-closed k n i b e x [] g some fits low h = (h .0, h .1, some, fits, h .4, omega (arith, h .4), tt)
-runs-closed k n i b e x (y ∷ hs) g some fits low h =
-    (h .0, h .1, h .2, h .3, h .4, h .5, runs-closed k n (i + 1) (y .max + 1) e x hs g some fits low (h .6))
+runs-closed : (k c i b e x : ℕ) (hs : List Segment) (g : Segment) → 1 ≤ x → x ≤ c → g .min ≤ e → Runs k c i b (hs ++ (g ∷ []))
+    → Runs k c i b (hs ++ (endedAt g e x ∷ []))
+runs-closed k c i b e x [] g some fits low h = (h .0, h .1, some, fits, h .4, omega (arith, h .4), tt)
+runs-closed k c i b e x (y ∷ hs) g some fits low h =
+    (h .0, h .1, h .2, h .3, h .4, h .5, runs-closed k c (i + 1) (y .max + 1) e x hs g some fits low (h .6))
 
 -- ---- the log
 
 -- the first segment holds s, the last one ends with e and a page
-closed-ends : (k n i b s e x : ℕ) (hs : List Segment) (g : Segment) → Runs k n i b (hs ++ (g ∷ [])) → b ≤ s → s ≤ firstMax hs g → s ≤ e
-    → x % 4096 ≡ 0 → endsOf s e (hs ++ (closedAt g e x ∷ [])) ≡ true
+closed-ends : (k c i b s e x : ℕ) (hs : List Segment) (g : Segment) → Runs k c i b (hs ++ (g ∷ [])) → b ≤ s → s ≤ firstMax hs g → s ≤ e
+    → x % 4096 ≡ 0 → endsOf s e (hs ++ (endedAt g e x ∷ [])) ≡ true
 unfolding endsOf
-closed-ends k n i b s e x [] g h low high order whole =
+closed-ends k c i b s e x [] g h low high order whole =
     simp (le-leb (g .min) s (omega (arith, h .4)), le-leb s e order, eq-eqb (x % 4096) 0 whole, eq-eqb e e refl)
-closed-ends k n i b s e x (y ∷ hs) g h low high order whole =
-    let last : headOf (y ∷ hs ++ (closedAt g e x ∷ [])) ≡ closedAt g e x = head-snoc (y ∷ hs) (closedAt g e x) in
+closed-ends k c i b s e x (y ∷ hs) g h low high order whole =
+    let last : headOf (y ∷ hs ++ (endedAt g e x ∷ [])) ≡ endedAt g e x = head-snoc (y ∷ hs) (endedAt g e x) in
     simp (
       le-leb (y .min) s (omega (arith, h .4)),
       le-leb s (y .max) high,
-      eq-eqb (headOf (y ∷ hs ++ (closedAt g e x ∷ [])) .size % 4096) 0 (ap (λ (z : Segment). z .size % 4096) last ∙ whole),
-      eq-eqb (headOf (y ∷ hs ++ (closedAt g e x ∷ [])) .max) e (ap (λ (z : Segment). z .max) last),
+      eq-eqb (headOf (y ∷ hs ++ (endedAt g e x ∷ [])) .size % 4096) 0 (ap (λ (z : Segment). z .size % 4096) last ∙ whole),
+      eq-eqb (headOf (y ∷ hs ++ (endedAt g e x ∷ [])) .max) e (ap (λ (z : Segment). z .max) last),
     )
 
 -- the front of kept segments and the head closed at e
 closed-same : (e x : ℕ) (gs hs : List Segment) (g : Segment) → gs ≡ hs ++ (g ∷ [])
-    → frontOf gs ++ (closedAt (headOf gs) e x ∷ []) ≡ hs ++ (closedAt g e x ∷ [])
+    → frontOf gs ++ (endedAt (headOf gs) e x ∷ []) ≡ hs ++ (endedAt g e x ∷ [])
 closed-same e x gs hs g q =
-    ap (λ (l : List Segment). frontOf l ++ (closedAt (headOf l) e x ∷ [])) q
-    ∙ ap (λ (l : List Segment). l ++ (closedAt (headOf (hs ++ (g ∷ []))) e x ∷ [])) (front-snoc hs g)
-    ∙ ap (λ (z : Segment). hs ++ (closedAt z e x ∷ [])) (head-snoc hs g)
+    ap (λ (l : List Segment). frontOf l ++ (endedAt (headOf l) e x ∷ [])) q
+    ∙ ap (λ (l : List Segment). l ++ (endedAt (headOf (hs ++ (g ∷ []))) e x ∷ [])) (front-snoc hs g)
+    ∙ ap (λ (z : Segment). hs ++ (endedAt z e x ∷ [])) (head-snoc hs g)
 
 -- the kept segments of an accepted walk, the last one closed at e: a well-shaped log
 pub closed-shaped : (k c m s e i x : ℕ) (gs : List Segment) → sizesOf k c m ≡ true → 1 ≤ i → s ≤ e → Whole s e k c i gs → HeadGood c x
@@ -159,11 +165,11 @@ unfolding shapedOf
 closed-shaped k c m s e i x gs sizes some-id order w x-good apart =
     let hs = w .cut .hs in
     let g = w .cut .g in
-    let ys : List Segment = hs ++ (closedAt g e x ∷ []) in
+    let ys : List Segment = hs ++ (endedAt g e x ∷ []) in
     let runs : Runs k c (w .j) (w .b) ys = runs-closed k c (w .j) (w .b) e x hs g (x-good .some) (x-good .fits) (w .cut .low)
     (w .cut .runs) in
     let chain = runs-chain k c (w .j) (w .b) ys (omega (arith, w .from)) (w .some) runs in
-    let own : apartOf ys ≡ true = last-apart hs g (closedAt g e x) refl (ap apartOf (sym (w .cut .is)) ∙ apart) in
+    let own : apartOf ys ≡ true = last-apart hs g (endedAt g e x) refl (ap apartOf (sym (w .cut .is)) ∙ apart) in
     let few : length ys ≤ k = pigeons k ys own (chain-below k c ys chain) in
     let ends = closed-ends k c (w .j) (w .b) s e x hs g (w .cut .runs) (w .start-low) (w .start-high) order (x-good .whole) in
     subst (λ (l : List Segment). shapedOf (record { k = k; c = c; m = m; start = s; end = e; segs = l }) ≡ true)

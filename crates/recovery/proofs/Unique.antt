@@ -1,15 +1,19 @@
--- Two answers that the contract of `recover_rows` allows are equal, with every byte of the area and every word of the index: stated of what
--- a caller learns from the contract itself. Of `recover`, whose contract is the same record: `recover-unique` of Laws.antt.
--- Assumes nothing.
-use borrow.Fn.Kinds.{Dens, endedOf, resT}
-use contract.Lifetimes.{Lfts}
+-- Two answers that the contract of `recover` allows are equal, with every byte of the area and every word of the index: stated of what a
+-- caller learns from the contract itself. `read_rows`, which is proved by hand, has an equation for its contract. Assumes nothing.
+use mathlib.Core.Path.{_≡_}
+use mathlib.Core.List.{List}
+use Prim.Native.Nat.{ℕ}
 use denote.Ref.{now}
-use denote.Triple.Clauses.{AtExit}
-use Rattle.recovery.proofs.Laws.{Same, recover-unique}
-use Rattle.recovery.proofs.recover_rows.Reads.{Learnt}
-use Rattle.recovery.proofs.recover_rows.Kinds as Kinds
+use Rattle.lists.specs.Unique.{UniqueBoth}
+use Rattle.lists.proofs.Unique.{unique}
+use Rattle.segment.specs.declared.ImageRow.{ImageRow}
+use Rattle.image_rows.specs.declared.Rows.{Rows}
+use Rattle.image_rows.specs.Rows.{rowsOf}
+use Rattle.recovery.proofs.recover.Reads.{Learnt}
 
-pub recover-rows-unique : (κs : Lfts 2) (a : Dens κs Kinds.ps) (r r′ : resT Kinds.r κs .Denot)
-    (x x′ : AtExit (endedOf 2 Kinds.ps Kinds.r) κs) → Learnt κs a r x → Learnt κs a r′ x′
-    → Same r r′ (now (x .1 .1 .1 .0)) (now (x′ .1 .1 .1 .0)) (now (x .1 .1 .1 .1 .1 .1 .1 .0)) (now (x′ .1 .1 .1 .1 .1 .1 .1 .0))
-recover-rows-unique κs a r r′ x x′ p q = recover-unique _ _ _ r r′ _ _ _ _ p q
+pub recover-unique : UniqueBoth Learnt {M = List ℕ × List ℕ} (λ _ x. (now (x .1 .1 .1 .0), now (x .1 .1 .1 .1 .1 .1 .1 .0)))
+recover-unique κs a r r′ x x′ p q =
+    (unique (p .answer) (q .answer), (λ i. (unique (p .bytes) (q .bytes) i, unique (p .words) (q .words) i)))
+
+pub read-rows-unique : (images : List ImageRow) (r r′ : Rows) → r ≡ rowsOf images → r′ ≡ rowsOf images → r ≡ r′
+read-rows-unique images r r′ = unique

@@ -5,61 +5,64 @@ use mathlib.Core.Path.{_≡_, refl, sym, ap, subst, _∙_}
 use mathlib.Core.Bool.{Bool, true, false, _&&_, _||_}
 use mathlib.Core.List.{List, [], _∷_, _++_}
 use mathlib.Core.Logic.{_⊎_, inl, inr, ⊎-elim}
-use Prim.Native.Nat.{ℕ, _+_, _-_, _*_, _%_, _≤_, _<_}
+use Prim.Native.Nat.{ℕ, _+_, _*_, _%_, _≤_, _<_}
 use native.Mathlib.Nat.{mul-le-mul-right, suc-mul}
 use native.Mathlib.Omega.{arith}
 use lib.ListN.{length}
 use lib.Dec.{ltb, leb, eqb, lit<}
 use borrow.Author.Tests.{eqb-true, eqb-false, eq-eqb, ne-eqb, ltb-true, ltb-false, leb-true, le-leb}
 use Rattle.lists.specs.Choice.{pick}
+use Rattle.lists.proofs.Bools.{and-both, both-ways}
 use Rattle.lists.proofs.Cases.{by-test}
 use Rattle.lists.proofs.Splice.{part-length}
 use Rattle.page.specs.Page.{paddedEnd}
 use Rattle.page.proofs.Page.{pad-ge, pad-least, pad-multiple}
-use Rattle.seglog.specs.declared.Segment.{Segment}
-use Rattle.lists.proofs.Bools.{and-both, both-ways}
-use Rattle.image_rows.specs.declared.ImageRow.{ImageRow}
-use Rattle.recovery_walk.specs.declared.Scan.{Scan}
-use Rattle.recovery_walk.specs.declared.Step.{Step}
-use Rattle.recovery_walk.specs.declared.Step.the-variants.{Next, Fault}
-use Rattle.recovery_walk.specs.Step.{liveOf, cutOf, moreOf, gapOf, recordStep, advancedOf}
-use Rattle.recovery_walk.specs.Images.{walked, records, images, imageOf, openedOf, filledOf}
-use Rattle.recovery_walk.proofs.StepCases.{Follows, follows-is, Went, went, more-over}
-use Rattle.recovery_walk.proofs.RecordCases.{records-ind, records-end}
-use Rattle.recovery_walk.proofs.ImageCases.{first-walked}
+use Rattle.record.specs.Record.{headerAt}
+use Rattle.segment.specs.declared.Segment.{Segment}
+use Rattle.segment.specs.declared.ImageRow.{ImageRow}
+use Rattle.segment.specs.Segment.{imageOf}
+use Rattle.walk.specs.declared.Scan.{Scan}
+use Rattle.walk.specs.declared.Step.the-variants.{Next}
+use Rattle.walk.specs.declared.Walked.the-variants.{Ended}
+use Rattle.walk.specs.Judging.{liveOf, cutOf, moreOf, gapOf, recordStep, advancedOf, openedOf}
+use Rattle.walk.specs.Walk.{walkOf}
+use Rattle.walk.proofs.Judging.{Follows, follows-is, went, more-over}
+use Rattle.walk.proofs.Walk.{walk-end, walk-keeps}
+use Rattle.recovery_walk.specs.Images.{walked, images, filledOf}
+use Rattle.recovery_walk.proofs.Images.{walked-same, first-walked}
 use Rattle.image_rows.specs.ImageRows.{rowsInside}
-use Rattle.image_rows.proofs.Ids.{IdsFrom}
+use Rattle.image_rows.proofs.ImageRows.{IdsFrom}
+use Rattle.lists.specs.Each.{all}
 
 -- ---- the records of one image
 
--- a padded end inside a slot of n bytes
-pub record HeadGood (n x : ℕ) : Type 0 where
+-- a padded end inside a slot of c bytes
+pub record HeadGood (c x : ℕ) : Type 0 where
   pub some : 1 ≤ x
-  pub fits : x ≤ n
+  pub fits : x ≤ c
   pub whole : x % 4096 ≡ 0
 
--- what the records from the state c to the state d tell; `first` is the id of the first of them
-pub record Ran (n s e : ℕ) (c d : Scan) : Type 0 where
+-- what the records from the state w to the state d tell; `first` is the id of the first of them
+pub record Ran (c s e : ℕ) (w d : Scan) : Type 0 where
   pub first : ℕ
-  pub follows : Follows (c .last) first
+  pub follows : Follows (w .last) first
   pub upto : first ≤ d .last
-  pub min : d .min ≡ pick (eqb (c .min) 0) first (c .min)
+  pub min : d .min ≡ pick (eqb (w .min) 0) first (w .min)
   pub max : d .max ≡ d .last
-  pub start : c .start ≡ false → d .start ≡ true → (first ≤ s) × (s ≤ d .last)
-  pub end : c .end ≡ false → d .end ≡ true → (first ≤ e) × (e ≤ d .last)
-  pub head : (c .end ≡ true → HeadGood n (c .head)) → d .end ≡ true → HeadGood n (d .head)
+  pub start : w .«found_s» ≡ false → d .«found_s» ≡ true → (first ≤ s) × (s ≤ d .last)
+  pub end : w .«found_e» ≡ false → d .«found_e» ≡ true → (first ≤ e) × (e ≤ d .last)
+  pub head : (w .«found_e» ≡ true → HeadGood c (w .«end_of_e»)) → d .«found_e» ≡ true → HeadGood c (d .«end_of_e»)
 
 -- the record e is live, so its payload ends inside the image, and its padding inside the slot
-head-good : (n size pos s e len : ℕ) → size ≤ n → n % 4096 ≡ 0 → s ≤ e → 12 ≤ size - pos → cutOf size pos s e len e ≡ false
-    → HeadGood n (paddedEnd 4096 (pos + 12 + len))
+head-good : (c size s e end : ℕ) → size ≤ c → c % 4096 ≡ 0 → s ≤ e → 1 ≤ end → cutOf size s e e end ≡ false
+    → HeadGood c (paddedEnd 4096 end)
 unfolding cutOf liveOf
-head-good n size pos s e len in-slot whole order room cut =
-    let short : ltb (size - (pos + 12)) len ≡ false = simp (le-leb s e order, le-leb e e (omega arith)) at cut in
-    let ends : pos + 12 + len ≤ size = omega (arith, ltb-false (size - (pos + 12)) len short) in
+head-good c size s e end in-slot whole order some cut =
+    let short : ltb size end ≡ false = simp (le-leb s e order, le-leb e e (omega arith)) at cut in
     record {
-      some = omega (arith, pad-ge 4096 (pos + 12 + len) (lit< tt));
-      fits = pad-least 4096 (pos + 12 + len) (lit< tt) n whole (omega arith);
-      whole = pad-multiple 4096 (pos + 12 + len) (lit< tt);
+      some = omega (arith, pad-ge 4096 end (lit< tt));
+      fits = pad-least 4096 end (lit< tt) c whole (omega (arith, ltb-false size end short));
+      whole = pad-multiple 4096 end (lit< tt);
     }
 
 -- a flag that a record set is that of the record
@@ -67,46 +70,48 @@ set-here : (was now : Bool) (id x : ℕ) → now ≡ (was || eqb id x) → was �
 set-here true now id x e f t = both-ways true refl f
 set-here false now id x e f t = eqb-true id x (sym e ∙ t)
 
-module _ (img : List ℕ) (n s e : ℕ) (in-slot : length img ≤ n) (whole : n % 4096 ≡ 0) (order : s ≤ e) where
+-- a flag that no record set was set before
+set-before : (was now b : Bool) → now ≡ (was || b) → b ≡ false → now ≡ true → was ≡ true
+set-before true now b e f t = refl
+set-before false now b e f t = both-ways b (sym e ∙ t) f
+
+module _ (img : List ℕ) (c s e : ℕ) (in-slot : length img ≤ c) (whole : c % 4096 ≡ 0) (order : s ≤ e) where
   -- one record
-  ran-one : (c d : Scan) → recordStep img s e c ≡ Next d → Ran n s e c d
+  ran-one : (w d : Scan) → recordStep img s e w ≡ Next d → Ran c s e w d
   unfolding advancedOf
-  ran-one c d m =
-      let w = went img s e c d m in
-      let id = w .id in
-      let last : d .last ≡ id = ap (λ (x : Scan). x .last) (w .to) in
+  ran-one w d m =
+      let g = went (length img) s e w (headerAt img (w .pos)) d m in
+      let id = g .id in
+      let end : ℕ = w .pos + 12 + g .len in
+      let last : d .last ≡ id = ap (λ (x : Scan). x .last) (g .to) in
       record {
         first = id;
-        follows = follows-is (c .last) id (w .follows);
+        follows = follows-is (w .last) id (g .follows);
         upto = omega arith;
-        min = ap (λ (x : Scan). x .min) (w .to);
-        max = ap (λ (x : Scan). x .max) (w .to) ∙ sym last;
+        min = ap (λ (x : Scan). x .min) (g .to);
+        max = ap (λ (x : Scan). x .max) (g .to) ∙ sym last;
         start = λ f t.
-            let here = set-here (c .start) (d .start) id s (ap (λ (x : Scan). x .start) (w .to)) f t in (omega arith, omega arith);
+            let here = set-here (w .«found_s») (d .«found_s») id s (ap (λ (x : Scan). x .«found_s») (g .to)) f t in
+            (omega arith, omega arith);
         end = λ f t.
-            let here = set-here (c .end) (d .end) id e (ap (λ (x : Scan). x .end) (w .to)) f t in (omega arith, omega arith);
+            let here = set-here (w .«found_e») (d .«found_e») id e (ap (λ (x : Scan). x .«found_e») (g .to)) f t in
+            (omega arith, omega arith);
         head = λ was t.
-            let at : d .head ≡ pick (eqb id e) (paddedEnd 4096 (c .pos + 12 + w .len)) (c .head) = ap (λ (x : Scan). x .head) (w .to) in
-            let ended : d .end ≡ (c .end || eqb id e) = ap (λ (x : Scan). x .end) (w .to) in
+            let at : d .«end_of_e» ≡ pick (eqb id e) (paddedEnd 4096 end) (w .«end_of_e») = ap (λ (x : Scan). x .«end_of_e») (g .to) in
             by-test (eqb id e)
             (λ q.
             let here : id ≡ e = eqb-true id e q in
-            let cut : cutOf (length img) (c .pos) s e (w .len) e ≡ false =
-            subst (λ (x : ℕ). cutOf (length img) (c .pos) s e (w .len) x ≡ false) here (w .whole) in
-            subst (HeadGood n) (sym (at ∙ ap (λ (b : Bool). pick b (paddedEnd 4096 (c .pos + 12 + w .len)) (c .head)) q))
-            (head-good n (length img) (c .pos) s e (w .len) in-slot whole order (w .small .room) cut))
+            let cut : cutOf (length img) s e e end ≡ false = subst (λ (x : ℕ). cutOf (length img) s e x end ≡ false) here (g .whole) in
+            subst (HeadGood c) (sym (at ∙ ap (λ (b : Bool). pick b (paddedEnd 4096 end) (w .«end_of_e»)) q))
+            (head-good c (length img) s e end in-slot whole order (omega arith) cut))
             (λ q.
-            let old : c .end ≡ true = older (c .end) (d .end) (eqb id e) ended q t in
-            subst (HeadGood n) (sym (at ∙ ap (λ (b : Bool). pick b (paddedEnd 4096 (c .pos + 12 + w .len)) (c .head)) q)) (was old));
+            let old = set-before (w .«found_e») (d .«found_e») (eqb id e) (ap (λ (x : Scan). x .«found_e») (g .to)) q t in
+            subst (HeadGood c) (sym (at ∙ ap (λ (b : Bool). pick b (paddedEnd 4096 end) (w .«end_of_e»)) q)) (was old));
       }
-    where
-      older : (was now b : Bool) → now ≡ (was || b) → b ≡ false → now ≡ true → was ≡ true
-      older true now b e f t = refl
-      older false now b e f t = both-ways b (sym e ∙ t) f
 
   -- some records, and some more
-  ran-join : (c d z : Scan) → Ran n s e c d → Ran n s e d z → Ran n s e c z
-  ran-join c d z p q =
+  ran-join : (w d z : Scan) → Ran c s e w d → Ran c s e d z → Ran c s e w z
+  ran-join w d z p q =
       let on : q .first ≡ d .last + 1 = q .follows .next (λ h. omega (arith, p .follows .some, p .upto)) in
       let some = p .follows .some in
       let up = p .upto in
@@ -117,212 +122,196 @@ module _ (img : List ℕ) (n s e : ℕ) (in-slot : length img ≤ n) (whole : n 
         upto = omega arith;
         min = q .min
             ∙ ap (λ (b : Bool). pick b (q .first) (d .min))
-            (ne-eqb (d .min) 0 (λ h. kept-min (eqb (c .min) 0) refl (sym (p .min) ∙ h) (p .follows .some))) ∙ p .min;
+            (ne-eqb (d .min) 0 (λ h. kept-min (eqb (w .min) 0) refl (sym (p .min) ∙ h) (p .follows .some))) ∙ p .min;
         max = q .max;
         start = λ f t.
-            by-test (d .start)
-            (λ b. let w = p .start f b in (w .0, omega (arith, w .1)))
-            (λ b. let w = q .start b t in (omega (arith, w .0), w .1));
+            by-test (d .«found_s»)
+            (λ b. let h = p .start f b in (h .0, omega (arith, h .1)))
+            (λ b. let h = q .start b t in (omega (arith, h .0), h .1));
         end = λ f t.
-            by-test (d .end)
-            (λ b. let w = p .end f b in (w .0, omega (arith, w .1)))
-            (λ b. let w = q .end b t in (omega (arith, w .0), w .1));
+            by-test (d .«found_e»)
+            (λ b. let h = p .end f b in (h .0, omega (arith, h .1)))
+            (λ b. let h = q .end b t in (omega (arith, h .0), h .1));
         head = λ was. q .head (p .head was);
       }
     where
-      kept-min : (b : Bool) → eqb (c .min) 0 ≡ b → pick b (p .first) (c .min) ≡ 0 → 0 < p .first → ⊥
+      kept-min : (b : Bool) → eqb (w .min) 0 ≡ b → pick b (p .first) (w .min) ≡ 0 → 0 < p .first → ⊥
       kept-min true g h l = omega arith
-      kept-min false g h l = eqb-false (c .min) 0 g h
+      kept-min false g h l = eqb-false (w .min) 0 g h
 
   -- no record, at the image's end; or some
-  abbrev Runs-to : Scan → Step → Type 0
-  Runs-to c a = (d : Scan) → a ≡ Next d → ((moreOf c (length img) ≡ false) × (c ≡ d)) ⊎ Ran n s e c d
-
-  records-ran : (c d : Scan) → records img s e c ≡ Next d → ((moreOf c (length img) ≡ false) × (c ≡ d)) ⊎ Ran n s e c d
-  records-ran c d q = records-ind img s e Runs-to next fault end c d q
-    where
-      next : (c d : Scan) (a : Step) → moreOf c (length img) ≡ true → recordStep img s e c ≡ Next d → Runs-to d a → Runs-to c a
-      next c d a h m ih z q =
-          inr
-          (⊎-elim (λ w. subst (Ran n s e c) (w .1) (ran-one c d m)) (λ w. ran-join c d z (ran-one c d m) w) (ih z q))
-
-      fault : (c : Scan) (k : ℕ) → moreOf c (length img) ≡ true → recordStep img s e c ≡ Fault k → Runs-to c (Fault k)
-      fault c k h m d q = absurd (let y : _≡_ {A = ℕ} 0 1 = cc in omega arith)
-
-      end : (c : Scan) → moreOf c (length img) ≡ false → Runs-to c (Next c)
-      end c h d q = inl (h, (cc))
+  walk-ran : (w d : Scan) → walkOf img s e w ≡ Ended d → ((moreOf w (length img) ≡ false) × (w ≡ d)) ⊎ Ran c s e w d
+  walk-ran =
+      walk-keeps (length img) (headerAt img) s e (λ w d. ((moreOf w (length img) ≡ false) × (w ≡ d)) ⊎ Ran c s e w d)
+      (λ w d z h m on. inr
+      (⊎-elim (λ o. subst (Ran c s e w) (o .1) (ran-one w d m)) (λ o. ran-join w d z (ran-one w d m) o) on))
+      (λ w h. inl (h, refl))
 
 -- ---- the images
 
--- segments of ids from i on, with records of ids from b on, in slots below k of n bytes
-abbrev pub Runs : (k n i b : ℕ) → List Segment → Type 0
-Runs k n i b [] = Unit {0}
-Runs k n i b (g ∷ gs) =
-    (g .id ≡ i) × (g .slot < k) × (1 ≤ g .size) × (g .size ≤ n) × (g .min ≡ b) × (b ≤ g .max) × Runs k n (i + 1) (g .max + 1) gs
+-- segments of ids from i on, with records of ids from b on, in slots below k of c bytes
+abbrev pub Runs : (k c i b : ℕ) → List Segment → Type 0
+Runs k c i b [] = Unit {0}
+Runs k c i b (g ∷ gs) =
+    (g .id ≡ i) × (g .slot < k) × (1 ≤ g .size) × (g .size ≤ c) × (g .min ≡ b) × (b ≤ g .max) × Runs k c (i + 1) (g .max + 1) gs
 
 -- the id behind the last record
 abbrev pub endOf : ℕ → List Segment → ℕ
 endOf b [] = b
 endOf b (g ∷ gs) = endOf (g .max + 1) gs
 
-pub runs-end : (k n i b : ℕ) (gs : List Segment) → Runs k n i b gs → b ≤ endOf b gs
-runs-end k n i b [] h = omega arith
-runs-end k n i b (g ∷ gs) h = omega (arith, runs-end k n (i + 1) (g .max + 1) gs (h .6), h .5)
+pub runs-end : (k c i b : ℕ) (gs : List Segment) → Runs k c i b gs → b ≤ endOf b gs
+runs-end k c i b [] h = omega arith
+runs-end k c i b (g ∷ gs) h = omega (arith, runs-end k c (i + 1) (g .max + 1) gs (h .6), h .5)
 
 -- segments that hold no record
 abbrev pub Empties : List Segment → Type 0
 Empties [] = Unit {0}
 Empties (g ∷ gs) = (g .max ≡ 0) × Empties gs
 
--- what an accepted walk from the state c to the state d tells of its segments
-pub record Tells (k n s e i : ℕ) (c d : Scan) (gs : List Segment) : Type 0 where
+-- what an accepted walk from the state w to the state d tells of its segments
+pub record Tells (k c s e i : ℕ) (w d : Scan) (gs : List Segment) : Type 0 where
   pub b : ℕ
   pub ys : List Segment
   pub zs : List Segment
-  pub follows : Follows (c .last) b
+  pub follows : Follows (w .last) b
   pub split : gs ≡ ys ++ zs
-  pub runs : Runs k n i b ys
+  pub runs : Runs k c i b ys
   pub empty : Empties zs
   pub top : endOf b ys ≡ d .last + 1
-  pub start : c .start ≡ false → d .start ≡ true → (b ≤ s) × (s ≤ d .last)
-  pub end : c .end ≡ false → d .end ≡ true → (b ≤ e) × (e ≤ d .last)
-  pub head : (c .end ≡ true → HeadGood n (c .head)) → d .end ≡ true → HeadGood n (d .head)
+  pub start : w .«found_s» ≡ false → d .«found_s» ≡ true → (b ≤ s) × (s ≤ d .last)
+  pub end : w .«found_e» ≡ false → d .«found_e» ≡ true → (b ≤ e) × (e ≤ d .last)
+  pub head : (w .«found_e» ≡ true → HeadGood c (w .«end_of_e»)) → d .«found_e» ≡ true → HeadGood c (d .«end_of_e»)
 
 -- an id that follows the last one
 after-last : (last : ℕ) → Follows last (last + 1)
 after-last last = record { some = omega arith; next = λ h. refl }
 
-module _ (area : List ℕ) (k n s e : ℕ) (all : length area ≡ k * n) (whole : n % 4096 ≡ 0) (order : s ≤ e) where
+module _ (area : List ℕ) (k c s e : ℕ) (all : length area ≡ k * c) (whole : c % 4096 ≡ 0) (order : s ≤ e) where
   -- a row's image has the row's size
-  image-long : (r : ImageRow) → r .slot < k → r .size ≤ n → length (imageOf area n r) ≡ r .size
+  image-long : (r : ImageRow) → r .slot < k → r .size ≤ c → length (imageOf area c r) ≡ r .size
   image-long r h g =
-      part-length (r .slot * n) (r .size) area (omega (arith, mul-le-mul-right n h, suc-mul (r .slot) n))
+      part-length (r .slot * c) (r .size) area (omega (arith, mul-le-mul-right c h, suc-mul (r .slot) c))
 
-  -- behind an image of size 0 no record is read
-  pub record Quiet (c d : Scan) (gs : List Segment) : Type 0 where
+  -- behind an image of size 0 no record is read: what the states w and d have in common
+  pub record Quiet (w d : Scan) (gs : List Segment) : Type 0 where
     pub empty : Empties gs
-    pub last : d .last ≡ c .last
-    pub start : d .start ≡ c .start
-    pub end : d .end ≡ c .end
-    pub head : d .head ≡ c .head
+    pub last : d .last ≡ w .last
+    pub start : d .«found_s» ≡ w .«found_s»
+    pub end : d .«found_e» ≡ w .«found_e»
+    pub head : d .«end_of_e» ≡ w .«end_of_e»
 
   -- an image of size 0
-  no-record : (r : ImageRow) (c d : Scan) → r .slot < k → r .size ≤ n → r .size ≡ 0
-      → records (imageOf area n r) s e (openedOf c) ≡ Next d → openedOf c ≡ d
+  no-record : (r : ImageRow) (w d : Scan) → r .slot < k → r .size ≤ c → r .size ≡ 0
+      → walkOf (imageOf area c r) s e (openedOf w (r .size)) ≡ Ended d → openedOf w (r .size) ≡ d
   unfolding moreOf
-  no-record r c d h g z q =
-      let none : length (imageOf area n r) ≡ 0 = image-long r h g ∙ z in
-      let over : moreOf (openedOf c) (length (imageOf area n r)) ≡ false = ap (λ (x : ℕ). ltb 0 x) none in
-      let same : Next (openedOf c) ≡ Next d = sym (records-end (imageOf area n r) s e (openedOf c) over) ∙ q in (cc)
+  no-record r w d h g z q =
+      let img : List ℕ = imageOf area c r in
+      let none : length img ≡ 0 = image-long r h g ∙ z in
+      let over : moreOf (openedOf w (r .size)) (length img) ≡ false = ap (λ (x : ℕ). ltb 0 x) none in
+      let same : Ended (openedOf w (r .size)) ≡ Ended d = sym (walk-end (length img) (headerAt img) s e (openedOf w (r .size)) over) ∙ q in
+      (cc)
 
-  quiet : (rs : List ImageRow) (c d : Scan) (gs : List Segment) → rowsInside k n rs ≡ true → images area n s e rs true c ≡ walked d gs
-      → Quiet c d gs
-  unfolding images rowsInside gapOf
-  quiet [] c d gs h q =
-      let same : c ≡ d = cc in
-      let none : [] ≡ gs = cc in
+  quiet : (rs : List ImageRow) (w d : Scan) (gs : List Segment) → rowsInside k c rs ≡ true → w .gap ≡ true
+      → images area c s e rs w ≡ walked d gs → Quiet w d gs
+  unfolding images all gapOf
+  quiet [] w d gs h gap q =
+      let same = walked-same q in
       record {
-        empty = subst Empties none tt;
-        last = sym (ap (λ (x : Scan). x .last) same);
-        start = sym (ap (λ (x : Scan). x .start) same);
-        end = sym (ap (λ (x : Scan). x .end) same);
-        head = sym (ap (λ (x : Scan). x .head) same);
+        empty = subst Empties (same .1) tt;
+        last = sym (ap (λ (x : Scan). x .last) (same .0));
+        start = sym (ap (λ (x : Scan). x .«found_s») (same .0));
+        end = sym (ap (λ (x : Scan). x .«found_e») (same .0));
+        head = sym (ap (λ (x : Scan). x .«end_of_e») (same .0));
       }
-  quiet (r ∷ rs) c d gs h q =
-      let f = first-walked area n s e r rs true c d gs q in
-      let t = and-both (ltb (r .slot) k && leb (r .size) n) (rowsInside k n rs) h in
-      let u = and-both (ltb (r .slot) k) (leb (r .size) n) (t .0) in
-      let slot : r .slot < k = ltb-true (r .slot) k (u .0) in
-      let size : r .size ≤ n = leb-true (r .size) n (u .1) in
-      let none : r .size ≡ 0 = omega (arith, ltb-false 0 (r .size) (f .calm)) in
-      let same = no-record r c (f .state) slot size none (f .ended) in
-      let on : images area n s e rs true (f .state) ≡ walked d (f .later) =
-      ap (λ (b : Bool). images area n s e rs b (f .state)) (sym (eq-eqb (r .size) 0 none)) ∙ f .on in
-      let w = quiet rs (f .state) d (f .later) (t .1) on in
+  quiet (r ∷ rs) w d gs h gap q =
+      let f = first-walked area c s e r w rs d gs q in
+      let t = and-both (ltb (r .slot) k && leb (r .size) c) (rowsInside k c rs) h in
+      let u = and-both (ltb (r .slot) k) (leb (r .size) c) (t .0) in
+      let calm : ltb 0 (r .size) ≡ false = ap (λ (b : Bool). b && ltb 0 (r .size)) (sym gap) ∙ f .calm in
+      let none : r .size ≡ 0 = omega (arith, ltb-false 0 (r .size) calm) in
+      let same = no-record r w (f .state) (ltb-true (r .slot) k (u .0)) (leb-true (r .size) c (u .1)) none (f .ended) in
+      let more = quiet rs (f .state) d (f .later) (t .1) (sym (ap (λ (x : Scan). x .gap) same) ∙ eq-eqb (r .size) 0 none) (f .on) in
       record {
-        empty = subst Empties (sym (f .segments)) (sym (ap (λ (x : Scan). x .max) same), w .empty);
-        last = w .last ∙ sym (ap (λ (x : Scan). x .last) same);
-        start = w .start ∙ sym (ap (λ (x : Scan). x .start) same);
-        end = w .end ∙ sym (ap (λ (x : Scan). x .end) same);
-        head = w .head ∙ sym (ap (λ (x : Scan). x .head) same);
+        empty = subst Empties (sym (f .segments)) (sym (ap (λ (x : Scan). x .max) same), more .empty);
+        last = more .last ∙ sym (ap (λ (x : Scan). x .last) same);
+        start = more .start ∙ sym (ap (λ (x : Scan). x .«found_s») same);
+        end = more .end ∙ sym (ap (λ (x : Scan). x .«found_e») same);
+        head = more .head ∙ sym (ap (λ (x : Scan). x .«end_of_e») same);
       }
 
   -- a walk that is accepted, from any state: first the images of size above 0, then those of size 0
-  pub images-tell : (rs : List ImageRow) (i : ℕ) (c d : Scan) (gs : List Segment) → rowsInside k n rs ≡ true → IdsFrom i rs
-      → images area n s e rs false c ≡ walked d gs → Tells k n s e i c d gs
-  unfolding images rowsInside
-  images-tell [] i c d gs h ids q =
-      let same : c ≡ d = cc in
-      let none : [] ≡ gs = cc in
+  pub images-tell : (rs : List ImageRow) (i : ℕ) (w d : Scan) (gs : List Segment) → rowsInside k c rs ≡ true → IdsFrom i rs
+      → images area c s e rs w ≡ walked d gs → Tells k c s e i w d gs
+  unfolding images all
+  images-tell [] i w d gs h ids q =
+      let same = walked-same q .0 in
       record {
-        b = c .last + 1;
+        b = w .last + 1;
         ys = [];
         zs = [];
-        follows = after-last (c .last);
-        split = sym none;
+        follows = after-last (w .last);
+        split = sym (walked-same q .1);
         runs = tt;
         empty = tt;
         top = ap (λ (x : Scan). x .last + 1) same;
-        start = λ f t. both-ways (c .start) (ap (λ (x : Scan). x .start) same ∙ t) f;
-        end = λ f t. both-ways (c .end) (ap (λ (x : Scan). x .end) same ∙ t) f;
-        head = λ was t. subst (HeadGood n) (ap (λ (x : Scan). x .head) same) (was (ap (λ (x : Scan). x .end) same ∙ t));
+        start = λ f t. both-ways (w .«found_s») (ap (λ (x : Scan). x .«found_s») same ∙ t) f;
+        end = λ f t. both-ways (w .«found_e») (ap (λ (x : Scan). x .«found_e») same ∙ t) f;
+        head = λ was t. subst (HeadGood c) (ap (λ (x : Scan). x .«end_of_e») same) (was (ap (λ (x : Scan). x .«found_e») same ∙ t));
       }
-  images-tell (r ∷ rs) i c d gs h ids q =
-      let f = first-walked area n s e r rs false c d gs q in
-      let t = and-both (ltb (r .slot) k && leb (r .size) n) (rowsInside k n rs) h in
-      let u = and-both (ltb (r .slot) k) (leb (r .size) n) (t .0) in
+  images-tell (r ∷ rs) i w d gs h ids q =
+      let f = first-walked area c s e r w rs d gs q in
+      let t = and-both (ltb (r .slot) k && leb (r .size) c) (rowsInside k c rs) h in
+      let u = and-both (ltb (r .slot) k) (leb (r .size) c) (t .0) in
       let slot : r .slot < k = ltb-true (r .slot) k (u .0) in
-      let size : r .size ≤ n = leb-true (r .size) n (u .1) in
+      let size : r .size ≤ c = leb-true (r .size) c (u .1) in
       by-test (eqb (r .size) 0)
       (λ z.
-      let none : r .size ≡ 0 = eqb-true (r .size) 0 z in
-      let same = no-record r c (f .state) slot size none (f .ended) in
-      let on : images area n s e rs true (f .state) ≡ walked d (f .later) =
-      ap (λ (b : Bool). images area n s e rs b (f .state)) (sym z) ∙ f .on in
-      empty-first r c d gs (f .state) (f .later) same (quiet rs (f .state) d (f .later) (t .1) on) (f .segments))
+      let same = no-record r w (f .state) slot size (eqb-true (r .size) 0 z) (f .ended) in
+      empty-first r w d gs (f .state) (f .later) same
+      (quiet rs (f .state) d (f .later) (t .1) (sym (ap (λ (x : Scan). x .gap) same) ∙ z) (f .on)) (f .segments))
       (λ z.
-      let on : images area n s e rs false (f .state) ≡ walked d (f .later) =
-      ap (λ (b : Bool). images area n s e rs b (f .state)) (sym z) ∙ f .on in
-      filled-first r c d gs (f .state) (f .later) slot size (eqb-false (r .size) 0 z) (ids .0) (f .ended)
-      (images-tell rs (i + 1) (f .state) d (f .later) (t .1) (ids .1) on) (f .segments))
+      filled-first r w d gs (f .state) (f .later) slot size (eqb-false (r .size) 0 z) (ids .0) (f .ended)
+      (images-tell rs (i + 1) (f .state) d (f .later) (t .1) (ids .1) (f .on)) (f .segments))
     where
-      empty-first : (r : ImageRow) (c d : Scan) (gs : List Segment) (m : Scan) (later : List Segment) → openedOf c ≡ m → Quiet m d later
-          → gs ≡ filledOf r m ∷ later → Tells k n s e i c d gs
-      empty-first r c d gs m later same w segs =
+      empty-first : (r : ImageRow) (w d : Scan) (gs : List Segment) (m : Scan) (later : List Segment) → openedOf w (r .size) ≡ m
+          → Quiet m d later → gs ≡ filledOf r m ∷ later → Tells k c s e i w d gs
+      empty-first r w d gs m later same o segs =
           record {
-            b = c .last + 1;
+            b = w .last + 1;
             ys = [];
             zs = gs;
-            follows = after-last (c .last);
+            follows = after-last (w .last);
             split = refl;
             runs = tt;
-            empty = subst Empties (sym segs) (sym (ap (λ (x : Scan). x .max) same), w .empty);
-            top = sym (ap (λ (x : ℕ). x + 1) (w .last ∙ sym (ap (λ (x : Scan). x .last) same)));
-            start = λ f t. both-ways (c .start) (ap (λ (x : Scan). x .start) same ∙ sym (w .start) ∙ t) f;
-            end = λ f t. both-ways (c .end) (ap (λ (x : Scan). x .end) same ∙ sym (w .end) ∙ t) f;
+            empty = subst Empties (sym segs) (sym (ap (λ (x : Scan). x .max) same), o .empty);
+            top = sym (ap (λ (x : ℕ). x + 1) (o .last ∙ sym (ap (λ (x : Scan). x .last) same)));
+            start = λ f t. both-ways (w .«found_s») (ap (λ (x : Scan). x .«found_s») same ∙ sym (o .start) ∙ t) f;
+            end = λ f t. both-ways (w .«found_e») (ap (λ (x : Scan). x .«found_e») same ∙ sym (o .end) ∙ t) f;
             head = λ was t.
-                subst (HeadGood n) (ap (λ (x : Scan). x .head) same ∙ sym (w .head))
-                (was (ap (λ (x : Scan). x .end) same ∙ sym (w .end) ∙ t));
+                subst (HeadGood c) (ap (λ (x : Scan). x .«end_of_e») same ∙ sym (o .head))
+                (was (ap (λ (x : Scan). x .«found_e») same ∙ sym (o .end) ∙ t));
           }
 
-      filled-first : (r : ImageRow) (c d : Scan) (gs : List Segment) (m : Scan) (later : List Segment) → r .slot < k → r .size ≤ n
-          → (r .size ≡ 0 → ⊥) → r .id ≡ i → records (imageOf area n r) s e (openedOf c) ≡ Next m → Tells k n s e (i + 1) m d later
-          → gs ≡ filledOf r m ∷ later → Tells k n s e i c d gs
-      filled-first r c d gs m later slot size some id ended w segs =
+      filled-first : (r : ImageRow) (w d : Scan) (gs : List Segment) (m : Scan) (later : List Segment) → r .slot < k → r .size ≤ c
+          → (r .size ≡ 0 → ⊥) → r .id ≡ i → walkOf (imageOf area c r) s e (openedOf w (r .size)) ≡ Ended m
+          → Tells k c s e (i + 1) m d later → gs ≡ filledOf r m ∷ later → Tells k c s e i w d gs
+      filled-first r w d gs m later slot size some id ended o segs =
           let long = image-long r slot size in
-          let ran : Ran n s e (openedOf c) m =
-          ⊎-elim (λ z. absurd (omega (arith, more-over (openedOf c) (length (imageOf area n r)) (z .0)))) (λ z. z)
-          (records-ran (imageOf area n r) n s e (omega arith) whole order (openedOf c) m ended) in
+          let from : Scan = openedOf w (r .size) in
+          let ran : Ran c s e from m =
+          ⊎-elim (λ z. absurd (omega (arith, more-over from (length (imageOf area c r)) (z .0)))) (λ z. z)
+          (walk-ran (imageOf area c r) c s e (omega arith) whole order from m ended) in
           let up = ran .upto in
-          let on : w .b ≡ m .last + 1 = w .follows .next (λ z. omega (arith, ran .follows .some)) in
-          let next : m .max + 1 ≡ w .b = ap (λ (x : ℕ). x + 1) (ran .max) ∙ sym on in
-          let far : m .last + 1 ≤ d .last + 1 = omega (arith, runs-end k n (i + 1) (w .b) (w .ys) (w .runs), w .top) in
+          let on : o .b ≡ m .last + 1 = o .follows .next (λ z. omega (arith, ran .follows .some)) in
+          let next : m .max + 1 ≡ o .b = ap (λ (x : ℕ). x + 1) (ran .max) ∙ sym on in
+          let far : m .last + 1 ≤ d .last + 1 = omega (arith, runs-end k c (i + 1) (o .b) (o .ys) (o .runs), o .top) in
           record {
             b = ran .first;
-            ys = filledOf r m ∷ w .ys;
-            zs = w .zs;
+            ys = filledOf r m ∷ o .ys;
+            zs = o .zs;
             follows = ran .follows;
-            split = segs ∙ ap (λ (x : List Segment). filledOf r m ∷ x) (w .split);
+            split = segs ∙ ap (λ (x : List Segment). filledOf r m ∷ x) (o .split);
             runs = (
               id,
               slot,
@@ -330,17 +319,17 @@ module _ (area : List ℕ) (k n s e : ℕ) (all : length area ≡ k * n) (whole 
               size,
               ran .min,
               omega (arith, ran .max),
-              subst (λ (x : ℕ). Runs k n (i + 1) x (w .ys)) (sym next) (w .runs),
+              subst (λ (x : ℕ). Runs k c (i + 1) x (o .ys)) (sym next) (o .runs),
             );
-            empty = w .empty;
-            top = ap (λ (x : ℕ). endOf x (w .ys)) next ∙ w .top;
+            empty = o .empty;
+            top = ap (λ (x : ℕ). endOf x (o .ys)) next ∙ o .top;
             start = λ f t.
-                by-test (m .start)
+                by-test (m .«found_s»)
                 (λ z. let y = ran .start f z in (y .0, omega (arith, y .1)))
-                (λ z. let y = w .start z t in (omega (arith, y .0), y .1));
+                (λ z. let y = o .start z t in (omega (arith, y .0), y .1));
             end = λ f t.
-                by-test (m .end)
+                by-test (m .«found_e»)
                 (λ z. let y = ran .end f z in (y .0, omega (arith, y .1)))
-                (λ z. let y = w .end z t in (omega (arith, y .0), y .1));
-            head = λ was. w .head (ran .head was);
+                (λ z. let y = o .end z t in (omega (arith, y .0), y .1));
+            head = λ was. o .head (ran .head was);
           }

@@ -1,64 +1,33 @@
 -- The ways of recovery, on plain values: each test that leads to a refusal, the empty range, and the scan of the sorted rows; and that the
--- code's first refusal, from a new log's answer and from that of `arrange`, is the definition's. Assumes nothing.
+-- code's first refusal, from the test of the sizes and from the answer of `arrange`, is the definition's. Assumes nothing.
 use mathlib.Core.Path.{_≡_, refl, sym, ap, subst, _∙_}
-use mathlib.Core.Bool.{Bool, true, false, not}
+use mathlib.Core.Bool.{Bool, true, false}
 use mathlib.Core.List.{List, [], _∷_}
 use Prim.Native.Nat.{ℕ, _*_, _≤_, _<_}
 use native.Mathlib.Omega.{arith}
 use lib.ListN.{length, take}
 use lib.Dec.{eqb, ltb}
-use borrow.Author.Tests.{eq-eqb, ne-eqb, eqb-true, eqb-false, ltb-true, ltb-false, lt-ltb, le-ltb}
-use Rattle.lists.specs.Choice.{_⇒_, first}
+use borrow.Author.Tests.{eq-eqb, ne-eqb, eqb-true, ltb-true, ltb-false, lt-ltb, le-ltb}
+use Rattle.lists.specs.Outcome.{refused}
 use Rattle.lists.proofs.Cases.{by-test}
-use Rattle.seglog.specs.declared.Logged.{Logged}
-use Rattle.seglog.specs.Log.{emptyOf, logOf, zeroLog, sizesOf}
-use Rattle.seglog.specs.New.{roomyOf, newOf, refusedLog, accepted}
+use Rattle.seglog.specs.Log.{emptyOf, logOf, sizesOf}
+use Rattle.seglog.specs.New.{roomyOf}
 use Rattle.seglog.specs.Shape.{SizesObey}
 use Rattle.lists.proofs.Bools.{and-both}
 use Rattle.seglog.proofs.Fit.{sizes-are}
-use Rattle.image_rows.specs.declared.ImageRow.{ImageRow}
+use Rattle.segment.specs.declared.ImageRow.{ImageRow}
 use Rattle.image_rows.specs.declared.Rows.{Rows}
 use Rattle.image_rows.specs.declared.Arranged.{Arranged}
 use Rattle.image_rows.specs.ImageRows.{sortRows, rowsInside, rowsFit, lowestZero, oneApart}
 use Rattle.image_rows.specs.Rows.{listedOf}
 use Rattle.image_rows.specs.Arrange.{arrangedOf}
-use Rattle.image_rows.proofs.Order.{sort-inside}
-use Rattle.image_rows.proofs.Ways.{fit-is, fit-few, sorted-is, Took, arranged-either}
+use Rattle.image_rows.proofs.ImageRows.{fit-is, sort-inside}
+use Rattle.image_rows.proofs.Listed.{fit-few, sorted-is}
+use Rattle.image_rows.proofs.Ways.{Took, arranged-either}
 use Rattle.recovery.specs.declared.Recovered.{Recovered}
-use Rattle.recovery.specs.Recovery.{
-  Recovery,
-  refused,
-  recovered,
-  scanned,
-  oneZero,
-  recoveryOf,
-  recoveryAnswer,
-  recoveryArea,
-  recoveryIndex,
-  RecoveryDid,
-}
+use Rattle.recovery.specs.Recovery.{Recovery, recovered, scanned, oneZero, recoveryOf, recoveryAnswer, recoveryArea, recoveryIndex}
+use Rattle.recovery.specs.Recovery.{RecoveryDid}
 use Rattle.recovery.specs.Kept.{firstRefusal, ScanPre}
-
--- ---- a new log's refusal is recovery's first
-
-pub new-refuses : (k c m n : ℕ) (r : Logged) → r ≡ newOf k c m n → (r .refusal ≡ 0 → ⊥) → (roomyOf k c m n ≡ false) × (r .refusal ≡ 1)
-unfolding newOf
-new-refuses k c m n r q h = go (roomyOf k c m n) refl q
-  where
-    go : (b : Bool) → roomyOf k c m n ≡ b → r ≡ first ((not b ⇒ refusedLog 1 zeroLog) ∷ []) (accepted (logOf (emptyOf k c m)))
-        → (roomyOf k c m n ≡ false) × (r .refusal ≡ 1)
-    go true e p = absurd (h (ap (λ (x : Logged). x .refusal) p))
-    go false e p = (e, ap (λ (x : Logged). x .refusal) p)
-
-pub new-accepts : (k c m n : ℕ) (r : Logged) → r ≡ newOf k c m n → r .refusal ≡ 0
-    → (roomyOf k c m n ≡ true) × (r .log ≡ logOf (emptyOf k c m))
-unfolding newOf
-new-accepts k c m n r q h = go (roomyOf k c m n) refl q
-  where
-    go : (b : Bool) → roomyOf k c m n ≡ b → r ≡ first ((not b ⇒ refusedLog 1 zeroLog) ∷ []) (accepted (logOf (emptyOf k c m)))
-        → (roomyOf k c m n ≡ true) × (r .log ≡ logOf (emptyOf k c m))
-    go true e p = (e, ap (λ (x : Logged). x .log) p)
-    go false e p = absurd (omega (arith, ap (λ (x : Logged). x .refusal) p))
 
 -- K, C and the area's length, where they obey the rules
 pub record Roomy (k c m n : ℕ) : Type 0 where
@@ -147,56 +116,47 @@ did-empty o k c m area index r p q =
       words = sym (ap (recoveryIndex index) q);
     }
 
--- ---- joined: a new log was asked for first, and gave the area back as it was
-
-pub did-back : (o : Recovery) (area area₁ index : List ℕ) (r : Recovered) → area₁ ≡ area → RecoveryDid o area index r area index
-    → RecoveryDid o area index r area₁ index
-did-back o area area₁ index r same h = subst (λ (z : List ℕ). RecoveryDid o area index r z index) (sym same) h
-
-pub did-scan : (k c m : ℕ) (area area₁ index : List ℕ) (rs ss : List ImageRow) (s e room : ℕ) (o : Recovery) (r : Recovered)
-    (area′ index′ : List ℕ) → area₁ ≡ area → rs ≡ ss → o ≡ scanned k c m area ss s e room
-    → RecoveryDid (scanned k c m area₁ rs s e room) area₁ index r area′ index′ → RecoveryDid o area index r area′ index′
-did-scan k c m area area₁ index rs ss s e room o r area′ index′ same sorted is h =
+-- the scan of the sorted rows
+pub did-scan : (k c m : ℕ) (area index : List ℕ) (rs ss : List ImageRow) (s e room : ℕ) (o : Recovery) (r : Recovered)
+    (area′ index′ : List ℕ) → rs ≡ ss → o ≡ scanned k c m area ss s e room
+    → RecoveryDid (scanned k c m area rs s e room) area index r area′ index′ → RecoveryDid o area index r area′ index′
+did-scan k c m area index rs ss s e room o r area′ index′ sorted is h =
     subst (λ (q : Recovery). RecoveryDid q area index r area′ index′) (sym is)
-    (subst (λ (l : List ImageRow). RecoveryDid (scanned k c m area l s e room) area index r area′ index′) sorted
-    (subst (λ (z : List ℕ). RecoveryDid (scanned k c m z rs s e room) z index r area′ index′) same h))
+    (subst (λ (l : List ImageRow). RecoveryDid (scanned k c m area l s e room) area index r area′ index′) sorted h)
 
 -- ---- the code's first refusal
 
-module _ (k c m : ℕ) (area : List ℕ) (images : Rows) (s e room : ℕ) (fresh : Logged) (arranged : Arranged)
-    (new : fresh ≡ newOf k c m (length area)) (rows : arranged ≡ arrangedOf k c images) where
+module _ (k c m : ℕ) (area : List ℕ) (images : Rows) (s e room : ℕ) (fit : Bool) (arranged : Arranged)
+    (sizes : fit ≡ roomyOf k c m (length area)) (rows : arranged ≡ arrangedOf k c images) where
   -- what the refusals before the scan leave
   pub record Passed : Type 0 where
     pub roomy : roomyOf k c m (length area) ≡ true
-    pub log : fresh .log ≡ logOf (emptyOf k c m)
     pub range : oneZero s e ≡ false
     pub order : s ≤ e
     pub took : Took k c images (arranged .rows)
 
   -- a number that is not 0 is the definition's refusal; 0 says that none was met
-  pub refusal-either : (n : ℕ) → n ≡ firstRefusal (fresh .refusal) s e (arranged .refusal)
+  pub refusal-either : (n : ℕ) → n ≡ firstRefusal fit s e (arranged .refusal)
       → ((n ≡ 0 → ⊥) → recoveryOf k c m area (listedOf images) s e room ≡ refused n) × (n ≡ 0 → Passed)
   unfolding firstRefusal
   refusal-either n q =
-      by-test (eqb (fresh .refusal) 0)
-      (λ t. let sizes = new-accepts k c m (length area) fresh new (eqb-true (fresh .refusal) 0 t) in
-      by-test (oneZero s e) (λ o. at 11 (q ∙ simp (t, o)) (λ z. way-one-zero _ _ _ _ _ _ _ _ (sizes .0) o) (λ z. absurd (omega arith)))
+      by-test fit
+      (λ t. let roomy = sym sizes ∙ t in
+      by-test (oneZero s e) (λ o. at 11 (q ∙ simp (t, o)) (λ z. way-one-zero _ _ _ _ _ _ _ _ roomy o) (λ z. absurd (omega arith)))
       (λ o. by-test (ltb e s)
-      (λ l. at 12 (q ∙ simp (t, o, l)) (λ z. way-order _ _ _ _ _ _ _ _ (sizes .0) o (ltb-true e s l)) (λ z. absurd (omega arith)))
+      (λ l. at 12 (q ∙ simp (t, o, l)) (λ z. way-order _ _ _ _ _ _ _ _ roomy o (ltb-true e s l)) (λ z. absurd (omega arith)))
       (λ l.
       let order = ltb-false e s l in
-      let few : k ≤ 64 = roomy-is k c m (length area) (sizes .0) .obey .few-slots in
+      let few : k ≤ 64 = roomy-is k c m (length area) roomy .obey .few-slots in
       let is : n ≡ arranged .refusal = q ∙ simp (t, o, l) in
       at (arranged .refusal) is
       (arranged-either (λ x. (x ≡ 0 → ⊥) → recoveryOf k c m area (listedOf images) s e room ≡ refused x) k c images arranged few rows
-      (λ f z. way-rows _ _ _ _ _ _ _ _ (sizes .0) o order f) (λ f w z. way-lowest _ _ _ _ _ _ _ _ (sizes .0) o order f w)
-      (λ f w p z. way-apart _ _ _ _ _ _ _ _ (sizes .0) o order f w p) (λ w z. absurd (z refl)))
+      (λ f z. way-rows _ _ _ _ _ _ _ _ roomy o order f) (λ f w z. way-lowest _ _ _ _ _ _ _ _ roomy o order f w)
+      (λ f w p z. way-apart _ _ _ _ _ _ _ _ roomy o order f w p) (λ w z. absurd (z refl)))
       (arranged-either (λ x. x ≡ 0 → Passed) k c images arranged few rows (λ f z. absurd (omega arith)) (λ f w z. absurd (omega arith))
       (λ f w p z. absurd (omega arith))
-      (λ w z. record { roomy = sizes .0; log = sizes .1; range = o; order = order; took = w })))))
-      (λ t.
-      let no = new-refuses k c m (length area) fresh new (eqb-false (fresh .refusal) 0 t) in
-      at 1 (q ∙ simp t (no .1)) (λ z. way-sizes _ _ _ _ _ _ _ _ (no .0)) (λ z. absurd (omega arith)))
+      (λ w z. record { roomy = roomy; range = o; order = order; took = w })))))
+      (λ t. at 1 (q ∙ simp t) (λ z. way-sizes _ _ _ _ _ _ _ _ (sym sizes ∙ t)) (λ z. absurd (omega arith)))
     where
       at : (x : ℕ) → n ≡ x → ((x ≡ 0 → ⊥) → recoveryOf k c m area (listedOf images) s e room ≡ refused x) → (x ≡ 0 → Passed)
           → ((n ≡ 0 → ⊥) → recoveryOf k c m area (listedOf images) s e room ≡ refused n) × (n ≡ 0 → Passed)
@@ -211,14 +171,15 @@ module _ (k c m : ℕ) (area : List ℕ) (images : Rows) (s e room : ℕ) (fresh
     rows-sorted = sorted-is images (arranged .rows) (p .took .sorted-as) (fit-few k c images long (p .took .fit)) long
 
     -- what the scan asks
-    pub scan-asks : (area₁ : List ℕ) → area₁ ≡ area → (s ≡ 0 → ⊥) → ScanPre k c m area₁ (arranged .rows) s e
-    scan-asks area₁ same some =
+    pub scan-asks : (s ≡ 0 → ⊥) → ScanPre k c m area (arranged .rows) s e
+    scan-asks some =
         record {
-          roomy = ap (λ (z : List ℕ). roomyOf k c m (length z)) same ∙ p .roomy;
+          roomy = p .roomy;
           order = p .order;
           some = some;
           few = omega (arith, fit-few k c images long (p .took .fit), ap (λ (z : Rows). z .count) (p .took .sorted-as));
-          inside = ap (rowsInside k c) rows-sorted ∙ sort-inside k c (listedOf images) (fit-is k c (listedOf images) (p .took .fit) .inside);
+          inside = ap (rowsInside k c) rows-sorted
+              ∙ sort-inside k c (listedOf images) (fit-is k c (listedOf images) (p .took .fit) .inside);
           low = ap lowestZero rows-sorted ∙ p .took .low;
           apart = ap oneApart rows-sorted ∙ p .took .apart;
         }

@@ -2,26 +2,35 @@
 use mathlib.Core.Path.{_≡_}
 use mathlib.Core.List.{List, [], _∷_, _++_}
 use mathlib.Core.Bool.{Bool, true, false, _&&_, _||_, not}
-use Prim.Native.Nat.{ℕ, _+_, _-_, _*_, _/_}
-use lib.ListN.{length, drop, replicate}
+use Prim.Native.Nat.{ℕ, _/_}
+use lib.ListN.{length, drop}
 use lib.Dec.{ltb, leb, eqb}
 use Rattle.lists.specs.Choice.{pick, _⇒_, first}
-use Rattle.lists.specs.Splice.{splice}
-use Rattle.seglog.specs.declared.Segment.{Segment}
+use Rattle.lists.specs.Outcome.{Outcome, refused, done, either, kept}
+use Rattle.segment.specs.declared.Segment.{Segment}
+use Rattle.segment.specs.Segment.{endedAt, paddedTo}
 use Rattle.seglog.specs.Log.{View, emptyOf, logOf, zeroLog, headOf, frontOf}
 use Rattle.seglog.specs.New.{roomyOf}
-use Rattle.image_rows.specs.declared.ImageRow.{ImageRow}
-use Rattle.recovery_walk.specs.Images as Walk
-use Rattle.recovery_walk.specs.Images.{Outcome}
+use Rattle.segment.specs.declared.ImageRow.{ImageRow}
+use Rattle.recovery_walk.specs.Images.{Found}
 use Rattle.recovery_walk.specs.Rows.{rowsAll, penOf}
 use Rattle.recovery_walk.specs.Scan.{scanOf}
 use Rattle.recovery.specs.declared.Recovered.{Recovered}
 use Rattle.image_rows.specs.ImageRows.{sortRows, rowsFit, lowestZero, oneApart}
 
--- a recovery's outcome: a refusal's number, or the log, the area and the words that the index begins with
-pub data Recovery : Type 0 where
-  refused : ℕ → Recovery
-  recovered : View → (area words : List ℕ) → Recovery
+-- what a recovery leaves: the log, the area and the words that the index begins with
+pub record Restored : Type 0 where
+  pub log : View
+  pub area : List ℕ
+  pub words : List ℕ
+
+-- a refusal's number, or what is left
+abbrev pub Recovery : Type 0
+Recovery = Outcome Restored
+
+-- a recovery that is accepted, with what it leaves
+abbrev pub recovered : View → (area words : List ℕ) → Recovery
+recovered a area words = done (record { log = a; area = area; words = words })
 
 -- ---- what an accepted scan leaves
 
@@ -34,24 +43,17 @@ unfoldable pub keptOf : ℕ → ℕ → List Segment → List Segment
 keptOf s e [] = []
 keptOf s e (g ∷ gs) = pick (holdsLive s e g) (g ∷ keptOf s e gs) (keptOf s e gs)
 
--- "the head's max is e; the head's size is e's padded end", x
-abbrev pub closedAt : Segment → ℕ → ℕ → Segment
-closedAt g e x = record { id = g .id; slot = g .slot; size = x; min = g .min; max = e }
-
--- "zeros written where padding was missing": from the head's size to e's padded end, and no other byte
-abbrev pub paddedHead : ℕ → List ℕ → Segment → ℕ → List ℕ
-paddedHead c area g x = splice (g .slot * c + g .size) (replicate (x - g .size) 0) area
-
 -- the log with the head g after hs
 abbrev pub closedOf : (k c m : ℕ) → List ℕ → (s e x : ℕ) → List ℕ → List Segment → Segment → Recovery
 closedOf k c m area s e x words hs g =
-    recovered (record { k = k; c = c; m = m; start = s; end = e; segs = hs ++ (closedAt g e x ∷ []) }) (paddedHead c area g x) words
+    recovered (record { k = k; c = c; m = m; start = s; end = e; segs = hs ++ (endedAt g e x ∷ []) }) (paddedTo c area g x) words
 
 -- a scan's outcome: its fault, or the kept segments, closed at e
-abbrev pub outcomeOf : (k c m : ℕ) → List ℕ → (s e : ℕ) → List ImageRow → Outcome → Recovery
-outcomeOf k c m area s e rows (Walk.refused n) = refused n
-outcomeOf k c m area s e rows (Walk.walked d gs) =
-    closedOf k c m area s e (d .head) (rowsAll area c s e rows penOf) (frontOf (keptOf s e gs)) (headOf (keptOf s e gs))
+abbrev pub outcomeOf : (k c m : ℕ) → List ℕ → (s e : ℕ) → List ImageRow → Outcome Found → Recovery
+outcomeOf k c m area s e rows o =
+    either refused
+    (λ a. closedOf k c m area s e (a .0 .«end_of_e») (rowsAll area c s e rows penOf) (frontOf (keptOf s e (a .1)))
+    (headOf (keptOf s e (a .1)))) o
 
 -- the scan of the sorted rows and what it leaves; `room` is the index's length in words
 abbrev pub scanned : (k c m : ℕ) → List ℕ → List ImageRow → (s e room : ℕ) → Recovery
@@ -81,18 +83,17 @@ recoveryOf k c m area rows s e room =
 
 -- the answer: "it is the log given, else all zeros"; the number of index rows written
 abbrev pub recoveryAnswer : Recovery → Recovered
-recoveryAnswer (refused n) = record { refusal = n; rows = 0; log = zeroLog }
-recoveryAnswer (recovered a area words) = record { refusal = 0; rows = length words / 4; log = logOf a }
+recoveryAnswer o =
+    either (λ n. record { refusal = n; rows = 0; log = zeroLog })
+    (λ a. record { refusal = 0; rows = length (a .words) / 4; log = logOf (a .log) }) o
 
--- the area afterwards: a refusal changes nothing
+-- the area afterwards
 abbrev pub recoveryArea : List ℕ → Recovery → List ℕ
-recoveryArea area (refused n) = area
-recoveryArea area (recovered a after words) = after
+recoveryArea area o = kept area (λ a. a .area) o
 
--- the index afterwards: a refusal changes nothing; "later words of the index keep their content"
+-- the index afterwards: "later words of the index keep their content"
 abbrev pub recoveryIndex : List ℕ → Recovery → List ℕ
-recoveryIndex index (refused n) = index
-recoveryIndex index (recovered a area words) = words ++ drop (length words) index
+recoveryIndex index o = kept index (λ a. a .words ++ drop (length (a .words)) index) o
 
 -- what the outcome o ensures: the answer, every byte of the area, every word of the index
 pub record RecoveryDid (o : Recovery) (area index : List ℕ) (r : Recovered) (area′ index′ : List ℕ) : Type 0 where

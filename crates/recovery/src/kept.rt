@@ -4,31 +4,19 @@ ghost use mathlib.Core.Path.{_≡_};
 ghost use Prim.Native.Nat.{_≤_, _+_};
 ghost use lib.ListN.{take};
 ghost use Rattle.lists.specs.Choice.{pick};
-ghost use Rattle.seglog.specs.Log.{noSegment};
-ghost use Rattle.recovery.specs.Recovery.{holdsLive, keptOf, closedAt};
+ghost use Rattle.segment.specs.Segment.{noSegment};
+ghost use Rattle.recovery.specs.Recovery.{holdsLive, keptOf};
 ghost use Rattle.recovery.specs.Kept.{keptIn, ClosePre, CloseDid};
 use crate::Recovered;
 use lists::at_most;
 use recovery_walk::Scanned;
 use seglog::Log;
-use seglog::Segment;
+use segment::Segment;
 
 // Segments at the front of 64 entries, `count` of them.
 pub(crate) struct Kept {
     pub count: usize,
     pub segs: [Segment; 64],
-}
-
-fn no_segment() -> Segment
-    ensures { λ r. ⌜ r ≡ noSegment ⌝ }
-{
-    Segment {
-        id: 0,
-        slot: 0,
-        size: 0,
-        min: 0,
-        max: 0,
-    }
 }
 
 // Whether the segment holds a record from s to e.
@@ -47,7 +35,7 @@ fn segment_if(live: bool, g: Segment) -> Segment
     if live {
         return g;
     }
-    no_segment()
+    segment::no_segment()
 }
 
 // One more, or none.
@@ -66,7 +54,7 @@ fn keep(s: u64, e: u64, segs: [Segment; 64], count: usize) -> Kept
     requires { ⌜ count ≤ 64 ⌝ }
     ensures { λ r. ⌜ r ≡ keptIn s e (take count segs) ⌝ }
 {
-    let none = no_segment();
+    let none = segment::no_segment();
     let mut kept = [none; 64];
     let mut n: usize = 0;
     let mut i: usize = 0;
@@ -83,19 +71,6 @@ fn keep(s: u64, e: u64, segs: [Segment; 64], count: usize) -> Kept
     }
 }
 
-// The segment with its records up to e, which end at x with their padding.
-fn closed(g: Segment, e: u64, x: u64) -> Segment
-    ensures { λ r. ⌜ r ≡ closedAt g e x ⌝ }
-{
-    Segment {
-        id: g.id,
-        slot: g.slot,
-        size: x,
-        min: g.min,
-        max: e,
-    }
-}
-
 // The log of the kept segments of the first `count` that were found, the last one closed at e.
 pub(crate) fn close(
     k: u64,
@@ -107,18 +82,18 @@ pub(crate) fn close(
     count: usize,
     found: Scanned,
 ) -> Recovered
-    requires { ⌜ ClosePre c count (found .scan .head) (keptOf s e (take count (found .segs))) ⌝ }
-    ensures { λ r. ⌜ CloseDid k c m s e found (keptOf s e (take count (found .segs))) (now (area .entry)) (now (area .exit)) r ⌝ }
+    requires { ⌜ ClosePre c s e count (found .scan .«end_of_e») (now area) (keptOf s e (take count (found .segs))) ⌝ }
+    ensures { λ r. ⌜ CloseDid k c m s e (found .scan .«end_of_e») (keptOf s e (take count (found .segs)))
+        (now (area .entry)) (now (area .exit)) r ⌝ }
 {
     let seen = found.segs;
-    let end = found.scan.head;
+    let end = found.scan.end_of_e;
     let kept = keep(s, e, seen, count);
     let at = kept.count - 1;
     let head = kept.segs[at];
-    let from = head.slot as u64 * c;
-    lists::zero_fill(area, (from + head.size) as usize, (from + end) as usize);
+    segment::truncate(area, c, head.slot, head.size, end);
     let mut segs = kept.segs;
-    segs[at] = closed(head, e, end);
+    segs[at] = segment::ended_at(head, e, end);
     let log = Log {
         k,
         c,
@@ -130,7 +105,7 @@ pub(crate) fn close(
     };
     Recovered {
         refusal: 0,
-        rows: found.scan.live,
+        rows: e - s + 1,
         log,
     }
 }

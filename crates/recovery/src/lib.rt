@@ -1,16 +1,16 @@
 // Recovery of a log from the images of its segments (`open`, `Recovery::scan_root_dir`, `remove_nonlive_segments` of the Rust's mod.rs).
-// The image rows are read once, into an array by value; everything else works on that.
+// The image rows are read once, into an array by value (`read_rows`); `recover` and everything below it work on that.
 ghost use mathlib.Core.Path.{_≡_};
 ghost use Prim.Native.Nat.{_<_};
 ghost use lib.ListN.{length, take};
+ghost use Rattle.lists.specs.Outcome.{refused};
 ghost use Rattle.image_rows.specs.Rows.{noRows, tooMany, putRow, rowsOf, listedOf};
-ghost use Rattle.recovery.specs.Recovery.{refused, scanned, oneZero, recoveryOf, recoveryAnswer, RecoveryDid};
+ghost use Rattle.recovery.specs.Recovery.{scanned, oneZero, recoveryOf, recoveryAnswer, RecoveryDid};
 ghost use Rattle.recovery.specs.Kept.{firstRefusal, ScanPre};
-use image_rows::ImageRow;
 use image_rows::Rows;
 use lists::same;
 use seglog::Log;
-use seglog::Segment;
+use segment::ImageRow;
 
 // A refusal's number with the all-zero log, or 0 with the number of index rows written and the log.
 #[repr(C)]
@@ -26,11 +26,7 @@ mod kept;
 fn no_rows() -> Rows
     ensures { λ r. ⌜ r ≡ noRows ⌝ }
 {
-    let row = ImageRow {
-        id: 0,
-        slot: 0,
-        size: 0,
-    };
+    let row = segment::no_row();
     let rows = [row; 64];
     Rows { count: 0, rows }
 }
@@ -39,11 +35,7 @@ fn no_rows() -> Rows
 fn too_many() -> Rows
     ensures { λ r. ⌜ r ≡ tooMany ⌝ }
 {
-    let row = ImageRow {
-        id: 0,
-        slot: 0,
-        size: 0,
-    };
+    let row = segment::no_row();
     let rows = [row; 64];
     Rows { count: 65, rows }
 }
@@ -58,8 +50,8 @@ fn put_row(acc: Rows, i: usize, row: ImageRow) -> Rows
     next
 }
 
-// The rows of the slice, copied into an array.
-fn read_rows(rows: &[ImageRow]) -> Rows
+// The lent rows, copied into an array: 64 of them at most, else one that says that there are more.
+pub fn read_rows(rows: &[ImageRow]) -> Rows
     ensures { λ r. ⌜ r ≡ rowsOf (now (rows .entry)) ⌝ }
 {
     if 64 < rows.len() {
@@ -79,23 +71,7 @@ fn read_rows(rows: &[ImageRow]) -> Rows
 fn refusal(number: u32) -> Recovered
     ensures { λ r. ⌜ r ≡ recoveryAnswer (refused number) ⌝ }
 {
-    let none = Segment {
-        id: 0,
-        slot: 0,
-        size: 0,
-        min: 0,
-        max: 0,
-    };
-    let segs = [none; 64];
-    let log = Log {
-        k: 0,
-        c: 0,
-        m: 0,
-        start: 0,
-        end: 0,
-        count: 0,
-        segs,
-    };
+    let log = seglog::empty_log(0, 0, 0);
     Recovered {
         refusal: number,
         rows: 0,
@@ -139,11 +115,11 @@ fn one_zero(s: u64, e: u64) -> bool
 }
 
 // The first refusal before the scan: that of the sizes (1), 11 and 12 of the range, that of the rows (13 to 15); 0 where there is none.
-fn first_refusal(sizes: u32, s: u64, e: u64, rows: u32) -> u32
-    ensures { λ r. ⌜ r ≡ firstRefusal sizes s e rows ⌝ }
+fn first_refusal(fit: bool, s: u64, e: u64, rows: u32) -> u32
+    ensures { λ r. ⌜ r ≡ firstRefusal fit s e rows ⌝ }
 {
-    if sizes != 0 {
-        return sizes;
+    if !fit {
+        return 1;
     }
     if one_zero(s, e) {
         return 11;
@@ -154,8 +130,9 @@ fn first_refusal(sizes: u32, s: u64, e: u64, rows: u32) -> u32
     rows
 }
 
-// Recovers the records s to e from the images of the rows, which stand in an array: 1, 11 to 15, then the scan.
-pub fn recover_rows(
+// Recovers the records s to e from the images of the rows, in any order: 1, 11 to 15, then the scan. The one entrance: rows that arrive in
+// a lent slice are read by `read_rows` first.
+pub fn recover(
     k: u64,
     c: u64,
     m: u64,
@@ -169,14 +146,14 @@ pub fn recover_rows(
         (recoveryOf k c m (now (area .entry)) (listedOf rows) s e (length (now (index .entry))))
         (now (area .entry)) (now (index .entry)) r (now (area .exit)) (now (index .exit)) ⌝ }
 {
-    let fresh = seglog::new_log(k, c, m, area);
+    let fit = seglog::sizes_fit(k, c, m, area.len());
     let arranged = image_rows::arrange(k, c, rows);
-    let number = first_refusal(fresh.refusal, s, e, arranged.refusal);
+    let number = first_refusal(fit, s, e, arranged.refusal);
     if number != 0 {
         return refusal(number);
     }
     if s == 0 {
-        let log = fresh.log;
+        let log = seglog::empty_log(k, c, m);
         return Recovered {
             refusal: 0,
             rows: 0,
@@ -185,23 +162,4 @@ pub fn recover_rows(
     }
     let sorted = arranged.rows;
     scan(k, c, m, area, sorted, s, e, index)
-}
-
-// Recovers the records s to e from the images of the lent rows, in any order.
-pub fn recover(
-    k: u64,
-    c: u64,
-    m: u64,
-    area: &mut [u8],
-    images: &[ImageRow],
-    s: u64,
-    e: u64,
-    index: &mut [u64],
-) -> Recovered
-    ensures { λ r. ⌜ RecoveryDid
-        (recoveryOf k c m (now (area .entry)) (now (images .entry)) s e (length (now (index .entry))))
-        (now (area .entry)) (now (index .entry)) r (now (area .exit)) (now (index .exit)) ⌝ }
-{
-    let rows = read_rows(images);
-    recover_rows(k, c, m, area, rows, s, e, index)
 }

@@ -31,9 +31,6 @@ end-fits a b within h = omega arith
 pub start-first : (a b : ℕ) → a ≤ a + b
 start-first a b = omega arith
 
-pub still-small : {a b n : ℕ} → a ≡ b → b ≤ n → a ≤ n
-still-small e h = omega arith
-
 pub still-room : {a b n : ℕ} → n ≤ a → b ≡ a → n ≤ b
 still-room h e = omega arith
 
@@ -47,8 +44,5 @@ place-falls h l = omega arith
 
 -- ---- a fault is not 0
 
-pub gap-some : {n : ℕ} → n ≡ 16 → n ≡ 0 → ⊥
-gap-some e z = omega arith
-
-pub fault-some : {n m : ℕ} → n ≡ m → 17 ≤ m → n ≡ 0 → ⊥
+pub fault-some : {n m : ℕ} → n ≡ m → 16 ≤ m → n ≡ 0 → ⊥
 fault-some e l z = omega arith

@@ -1,13 +1,9 @@
-pub mod StepCases
-pub mod RecordCases
-pub mod ImageCases
-pub mod RowWords
-pub mod Count
+pub mod Images
+pub mod Rows
 pub mod RowIds
-pub mod Segments
-pub mod Depend
+pub mod Headers
 mod Bounds
 mod ImagesTurn
 mod RowsTurn
-mod ScanCases
+pub mod Scan
 pub mod Unique

@@ -1,4 +1,3 @@
-pub mod Step
 pub mod Images
 pub mod Rows
 pub mod Scan

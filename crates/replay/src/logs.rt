@@ -1,9 +1,10 @@
 // Lines L, A, O, R and V: histories of a log, with the log and its segments' bytes compared after each call.
 use crate::digest;
 use crate::fields;
+use image_rows::Rows;
 use seglog::Log;
 use seglog::Logged;
-use seglog::Segment;
+use segment::Segment;
 
 // Whether the answer was the recorded one, and the log after it.
 pub(crate) struct Turn {
@@ -147,25 +148,35 @@ fn all_delivered(log: Log, area: &[u8], index: &[u64], count: u64) -> u64 {
     sum
 }
 
-// V DD s e NN digest STATE
-pub(crate) fn recovered(line: &[u8], log: Log, area: &mut [u8]) -> Turn {
+// A recovery of words 2 and 3, s and e, from these rows: NN in word i, the digest in the next, then STATE. Where it is refused the log
+// stays.
+pub(crate) fn recovery(line: &[u8], log: Log, area: &mut [u8], images: Rows, i: usize) -> Turn {
+    if 60 < i {
+        return Turn { good: false, log };
+    }
+    let digest_at = i + 1;
+    let state_at = i + 2;
     let mut index = [0u64; 256];
     let s = fields::hex(fields::word(line, 2));
     let e = fields::hex(fields::word(line, 3));
-    let wanted = fields::wanted(line, 4);
-    let images = listing::images_of(log);
-    let answer = recovery::recover_rows(log.k, log.c, log.m, &mut *area, images, s, e, &mut index);
+    let wanted = fields::wanted(line, i);
+    let answer = recovery::recover(log.k, log.c, log.m, &mut *area, images, s, e, &mut index);
     if answer.refusal != 0 {
         return Turn {
-            good: (answer.refusal == wanted) & state_same(log, area, line, 6),
+            good: (answer.refusal == wanted) & state_same(log, area, line, state_at),
             log,
         };
     }
-    let sum = fields::hex(fields::word(line, 5));
+    let sum = fields::hex(fields::word(line, digest_at));
     let payloads = all_delivered(answer.log, area, &index, answer.rows) == sum;
     let next = answer.log;
     Turn {
-        good: (wanted == 0) & payloads & state_same(next, area, line, 6),
+        good: (wanted == 0) & payloads & state_same(next, area, line, state_at),
         log: next,
     }
+}
+
+// V DD s e NN digest STATE
+pub(crate) fn recovered(line: &[u8], log: Log, area: &mut [u8]) -> Turn {
+    recovery(line, log, area, listing::images_of(log), 4)
 }

@@ -3,16 +3,16 @@
 mod deltas;
 mod digest;
 mod fields;
+mod images;
 mod logs;
 mod names;
 
+use libc::STDOUT_FILENO;
 use logs::Turn;
-use report::number;
-use report::say;
 use seglog::Log;
 
 // The kinds of lines, in the order of their counts.
-const KINDS: usize = 9;
+const KINDS: usize = 11;
 
 // One line of the file: where the next begins, its kind, whether the answer was the recorded one, and the log after it.
 struct Replayed {
@@ -38,6 +38,8 @@ fn kind_of(line: &[u8]) -> usize {
         b'O' => 6,
         b'R' => 7,
         b'V' => 8,
+        b'B' => 9,
+        b'I' => 10,
         _ => KINDS,
     }
 }
@@ -53,6 +55,8 @@ fn call(kind: usize, line: &[u8], log: Log, area: &mut [u8], payload: &mut [u8])
         5 => logs::appended(line, log, used, payload),
         6 => logs::oldest(line, log, used),
         7 => logs::recent(line, log, used),
+        9 => images::laid(line, log, used, payload),
+        10 => images::recovered(line, log, used),
         _ => logs::recovered(line, log, used),
     }
 }
@@ -117,7 +121,7 @@ fn step(file: i32, at: u64, log: Log, area: &mut [u8], one: &mut [u8], two: &mut
 // Replays line after line; the number of the first that differs, 0 where none does.
 fn replay_all(
     file: i32,
-    counts: &mut [u64; 9],
+    counts: &mut [u64; 11],
     area: &mut [u8],
     one: &mut [u8],
     two: &mut [u8],
@@ -145,15 +149,23 @@ fn replay_all(
     lines
 }
 
+fn say(bytes: &[u8]) {
+    io::write_all(STDOUT_FILENO, bytes);
+}
+
+fn number(v: u64) {
+    io::print_decimal(STDOUT_FILENO, v);
+}
+
 // The count of one kind, with its name.
-fn counted(counts: &[u64; 9], i: usize, what: &[u8]) {
+fn counted(counts: &[u64; 11], i: usize, what: &[u8]) {
     if i < KINDS {
         number(counts[i]);
         say(what);
     }
 }
 
-fn report_counts(counts: &[u64; 9]) {
+fn report_counts(counts: &[u64; 11]) {
     counted(counts, 0, b" names written\n");
     counted(counts, 1, b" names parsed\n");
     counted(counts, 2, b" deltas decoded\n");
@@ -163,14 +175,16 @@ fn report_counts(counts: &[u64; 9]) {
     counted(counts, 6, b" prunes of the oldest\n");
     counted(counts, 7, b" prunes of the recent\n");
     counted(counts, 8, b" recoveries\n");
+    counted(counts, 9, b" pieces of images laid\n");
+    counted(counts, 10, b" recoveries from images\n");
 }
 
-// The answers of all kinds; that a history begins is none.
-fn total(counts: &[u64; 9]) -> u64 {
+// The answers of all kinds; that a history begins is none, and a piece that is laid.
+fn total(counts: &[u64; 11]) -> u64 {
     let mut sum: u64 = 0;
     let mut i: usize = 0;
     while i < KINDS {
-        if i != 4 {
+        if (i != 4) & (i != 9) {
             sum = std::num::wrapping_add_u64(sum, counts[i]);
         }
         i += 1;
@@ -179,16 +193,18 @@ fn total(counts: &[u64; 9]) -> u64 {
 }
 
 fn run(file: i32, payload: &mut [u8]) {
-    let mut counts = [0u64; 9];
+    let mut counts = [0u64; 11];
     let mut area = io::large_buffer();
     let mut two = io::large_buffer();
     let differs = replay_all(file, &mut counts, &mut area, payload, &mut two);
     report_counts(&counts);
     if differs == 0 {
-        report::named(b"ok", total(&counts));
+        say(b"ok ");
+        number(total(&counts));
         say(b" answers replayed\n");
     } else {
-        report::named(b"refused, the first line that differs is", differs);
+        say(b"refused, the first line that differs is ");
+        number(differs);
         say(b"\n");
     }
 }

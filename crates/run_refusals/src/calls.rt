@@ -1,8 +1,8 @@
 // 1 to 10: a new log, append and the prunes.
 use crate::met;
-use report::say;
+use crate::say;
 use seglog::Log;
-use seglog::Segment;
+use segment::Segment;
 
 // A well-shaped log of one segment, of one page, with one record.
 fn made_up(segment: u32, record: u64) -> Log {

@@ -5,8 +5,15 @@ mod deltas;
 mod names;
 mod recoveries;
 
-use report::number;
-use report::say;
+use libc::STDOUT_FILENO;
+
+pub(crate) fn say(bytes: &[u8]) {
+    io::write_all(STDOUT_FILENO, bytes);
+}
+
+fn number(v: u64) {
+    io::print_decimal(STDOUT_FILENO, v);
+}
 
 // The line of a refusal, where the number is the one wanted.
 pub(crate) fn met(got: u32, wanted: u32, when: &[u8]) -> bool {
@@ -17,7 +24,8 @@ pub(crate) fn met(got: u32, wanted: u32, when: &[u8]) -> bool {
     if got == wanted {
         return true;
     }
-    report::named(b"  but the answer is", got as u64);
+    say(b"  but the answer is ");
+    number(got as u64);
     say(b"\n");
     false
 }

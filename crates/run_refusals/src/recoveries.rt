@@ -1,7 +1,7 @@
 // 11 to 24: recovery and the row question, on the images of two segments with the records 1-2 and 3-4, a page each.
 use crate::met;
-use image_rows::ImageRow;
 use image_rows::Rows;
+use segment::ImageRow;
 
 // Two image rows.
 struct Pair {
@@ -37,16 +37,7 @@ fn damaged(pair: Pair, s: u64, e: u64, at: usize, byte: u8) -> u32 {
     samples::filled(&mut area, 8192, 4);
     let mut index = [0u64; 16];
     lists::copy_into(&mut area, at, &[byte]);
-    let recovered = recovery::recover_rows(
-        2,
-        8192,
-        8192,
-        &mut area,
-        listed(pair),
-        s,
-        e,
-        &mut index,
-    );
+    let recovered = recovery::recover(2, 8192, 8192, &mut area, listed(pair), s, e, &mut index);
     recovered.refusal
 }
 
@@ -122,16 +113,7 @@ fn one_row() -> u32 {
     let mut area = [0u8; 16384];
     samples::filled(&mut area, 8192, 4);
     let mut index = [0u64; 4];
-    let recovered = recovery::recover_rows(
-        2,
-        8192,
-        8192,
-        &mut area,
-        listed(whole()),
-        1,
-        2,
-        &mut index,
-    );
+    let recovered = recovery::recover(2, 8192, 8192, &mut area, listed(whole()), 1, 2, &mut index);
     recovered.refusal
 }
 

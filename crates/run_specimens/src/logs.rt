@@ -50,7 +50,7 @@ fn left_by(log: Log, area: &mut [u8], n: u64) -> u64 {
 
 fn recover(log: Log, area: &mut [u8], s: u64, e: u64) -> Recovered {
     let mut index = [0u64; 16];
-    recovery::recover_rows(
+    recovery::recover(
         2,
         8192,
         8192,

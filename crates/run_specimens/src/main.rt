@@ -5,8 +5,15 @@ mod deltas;
 mod logs;
 mod names;
 
-use report::number;
-use report::say;
+use libc::STDOUT_FILENO;
+
+pub(crate) fn say(bytes: &[u8]) {
+    io::write_all(STDOUT_FILENO, bytes);
+}
+
+fn number(v: u64) {
+    io::print_decimal(STDOUT_FILENO, v);
+}
 
 // One fact of a specimen, where the value is the one wanted.
 pub(crate) fn holds(specimen: u64, what: &[u8], value: u64, wanted: u64) -> bool {

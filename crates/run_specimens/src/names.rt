@@ -1,6 +1,6 @@
 // Specimens 5 to 8: names.
 use crate::holds;
-use report::say;
+use crate::say;
 use segment_filename::Formatted;
 use segment_filename::Parsed;
 

@@ -1,20 +1,19 @@
 -- Segments that go on from each other: one more at the end, and place by place; the two ends of the live range.
 -- Assumes nothing.
-use mathlib.Core.Path.{_≡_, refl, sym, ap, _∙_}
+use mathlib.Core.Path.{_≡_, refl, ap}
 use mathlib.Core.List.{List, [], _∷_, _++_}
-use mathlib.Core.Bool.{Bool, true, false, _&&_}
+use mathlib.Core.Bool.{true, _&&_}
 use Prim.Native.Nat.{ℕ, zero, suc, _+_, _-_, _%_, _≤_, _<_}
-use native.Mathlib.Numerals.{add-one}
 use native.Mathlib.Omega.{arith}
 use lib.ListN.{length, getD}
 use lib.Dec.{eqb, leb}
 use borrow.Author.Tests.{eq-eqb, eqb-true, le-leb, leb-true}
-use Rattle.seglog.specs.declared.Segment.{Segment}
-use Rattle.seglog.specs.Log.{noSegment, headOf, freshIn, apartOf, nextOf, chainOf, endsOf, zeroOf, zerosOf}
+use Rattle.segment.specs.declared.Segment.{Segment}
+use Rattle.seglog.specs.Log.{headOf, nextOf, chainOf, endsOf, zeroOf, zerosOf}
+use Rattle.segment.specs.Segment.{noSegment}
 use Rattle.lists.proofs.Bools.{and-both, both-and}
 use Rattle.seglog.proofs.View.{zero-entry}
-use Rattle.seglog.proofs.Slots.{Fresh, fresh-cons, cons-fresh}
-use Rattle.seglog.proofs.Fit.{SegmentGood, ChainGood, chain-is, is-chain}
+use Rattle.seglog.proofs.Fit.{SegmentGood, chain-is, is-chain}
 
 -- "ids rise by 1", "the next min is max + 1": h goes on from g
 pub record Follows (g h : Segment) : Type 0 where
@@ -179,39 +178,6 @@ at-chain k c (g ∷ (x ∷ gs)) good next =
       next = is-next g x gs (next 0 (omega arith));
       rest = at-chain k c (x ∷ gs) (λ i h. good (suc i) (omega arith)) (λ i h. next (suc i) (omega arith));
     })
-
--- a slot that none has
-pub fresh-at : (s : ℕ) (gs : List Segment) (i : ℕ) → freshIn s gs ≡ true → i < length gs → getD gs i noSegment .slot ≡ s → ⊥
-fresh-at s [] i h l e = omega arith
-fresh-at s (g ∷ gs) zero h l e = fresh-cons s g gs h .here e
-fresh-at s (g ∷ gs) (suc i) h l e = fresh-at s gs i (fresh-cons s g gs h .rest) (omega arith) e
-
-pub at-fresh : (s : ℕ) (gs : List Segment) → ((i : ℕ) → i < length gs → getD gs i noSegment .slot ≡ s → ⊥) → freshIn s gs ≡ true
-unfolding freshIn
-at-fresh s [] h = refl
-at-fresh s (g ∷ gs) h =
-    cons-fresh s g gs (record { here = h 0 (omega arith); rest = at-fresh s gs (λ i l. h (suc i) (omega arith)) })
-
--- slots of their own
-pub apart-at : (gs : List Segment) (i j : ℕ) → apartOf gs ≡ true → i < j → j < length gs
-    → getD gs i noSegment .slot ≡ getD gs j noSegment .slot → ⊥
-unfolding apartOf
-apart-at [] i j h l m e = omega arith
-apart-at (g ∷ gs) zero zero h l m e = omega arith
-apart-at (g ∷ gs) zero (suc j) h l m e =
-    fresh-at (g .slot) gs j (and-both (freshIn (g .slot) gs) (apartOf gs) h .0) (omega arith) (sym e)
-apart-at (g ∷ gs) (suc i) zero h l m e = omega arith
-apart-at (g ∷ gs) (suc i) (suc j) h l m e =
-    apart-at gs i j (and-both (freshIn (g .slot) gs) (apartOf gs) h .1) (omega arith) (omega arith) e
-
-pub at-apart : (gs : List Segment)
-    → ((i j : ℕ) → i < j → j < length gs → getD gs i noSegment .slot ≡ getD gs j noSegment .slot → ⊥) → apartOf gs ≡ true
-unfolding apartOf
-at-apart [] h = refl
-at-apart (g ∷ gs) h =
-    both-and (freshIn (g .slot) gs) (apartOf gs)
-    (at-fresh (g .slot) gs (λ i l e. h 0 (suc i) (omega arith) (omega arith) (sym e)))
-    (at-apart gs (λ i j l m. h (suc i) (suc j) (omega arith) (omega arith)))
 
 -- entries that are zero
 pub zeros-at : (gs : List Segment) (i : ℕ) → zerosOf gs ≡ true → i < length gs → getD gs i noSegment ≡ noSegment

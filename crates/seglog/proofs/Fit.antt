@@ -2,8 +2,8 @@
 -- Assumes nothing.
 use mathlib.Core.Path.{_≡_, refl, sym, ap, _∙_}
 use mathlib.Core.List.{List, [], _∷_}
-use mathlib.Core.Bool.{Bool, true, false, _&&_, not}
-use Prim.Native.Nat.{ℕ, zero, suc, _+_, _-_, _*_, _%_, _≤_, _<_}
+use mathlib.Core.Bool.{Bool, true, false, _&&_}
+use Prim.Native.Nat.{ℕ, _-_, _*_, _%_, _≤_, _<_}
 use native.Mathlib.Nat.{mul-le-mul}
 use native.Mathlib.Omega.{arith}
 use lib.ListN.{length, getD, take, drop}
@@ -12,10 +12,9 @@ use lib.Dec.{eqb, leb, ltb}
 use borrow.Author.Tests.{le-leb, leb-true, lt-ltb, ltb-true, eq-eqb, eqb-true, eqb-false}
 use Rattle.lists.specs.Choice.{pick}
 use Rattle.lists.proofs.Cases.{by-test}
-use Rattle.seglog.specs.declared.Segment.{Segment}
+use Rattle.segment.specs.declared.Segment.{Segment}
 use Rattle.seglog.specs.declared.Log.{Log}
 use Rattle.seglog.specs.Log.{
-  noSegment,
   View,
   logOf,
   viewOf,
@@ -32,6 +31,8 @@ use Rattle.seglog.specs.Log.{
   fitsOf,
   fittingOf,
 }
+use Rattle.segment.specs.Segment.{noSegment}
+use Rattle.seglog.specs.New.{roomyOf}
 use Rattle.seglog.specs.Shape.{SizesObey}
 use Rattle.lists.proofs.Bools.{both-ways, and-both, both-and, not-so, same-test}
 use Rattle.seglog.proofs.View.{plain-log, view-log, listed-length, listed-at, listed-head}
@@ -73,6 +74,24 @@ are-sizes k c m s =
 -- K x C is a number of 38 bits
 pub sizes-room : (k c m : ℕ) → SizesObey k c m → k * c ≤ 137438953472
 sizes-room k c m s = mul-le-mul (s .few-slots) (s .at-most)
+
+-- ---- refusal 1
+
+-- what its absence says: K, C and M obey the rules, and the area's length n is K x C
+pub record Roomy (k c m n : ℕ) : Type 0 where
+  pub sizes : SizesObey k c m
+  pub area : n ≡ k * c
+
+pub roomy-is : (k c m n : ℕ) → roomyOf k c m n ≡ true → Roomy k c m n
+unfolding roomyOf
+roomy-is k c m n h =
+    let t = and-both (sizesOf k c m) (eqb n (k * c)) h in
+    record { sizes = sizes-are k c m (t .0); area = eqb-true n (k * c) (t .1) }
+
+-- and the other way
+pub is-roomy : (k c m n : ℕ) → SizesObey k c m → n ≡ k * c → roomyOf k c m n ≡ true
+unfolding roomyOf
+is-roomy k c m n s e = both-and (sizesOf k c m) (eqb n (k * c)) (are-sizes k c m s) (eq-eqb n (k * c) e)
 
 -- ---- a listed segment
 
@@ -209,13 +228,12 @@ module _ (l : Log) (n : ℕ) (long : length (l .segs) ≡ 64) where
   no-fit h = not-so (fittingOf l n) (λ q. h (fitting-is q))
 
   -- the ways of the code: K, C, M, the count or the area's length breaks the rules
-  pub fit-sizes : sizesOf (l .k) (l .c) (l .m) && leb (l .count) (l .k) && eqb n (l .k * l .c) ≡ false → false ≡ fittingOf l n
+  pub fit-sizes : roomyOf (l .k) (l .c) (l .m) n && leb (l .count) (l .k) ≡ false → false ≡ fittingOf l n
   fit-sizes h =
       no-fit (λ f.
       both-ways _
-      (both-and (sizesOf (l .k) (l .c) (l .m) && leb (l .count) (l .k)) (eqb n (l .k * l .c))
-      (both-and (sizesOf (l .k) (l .c) (l .m)) (leb (l .count) (l .k)) (are-sizes (l .k) (l .c) (l .m) (f .sizes))
-      (le-leb (l .count) (l .k) (f .few))) (eq-eqb n (l .k * l .c) (f .area))) h)
+      (both-and (roomyOf (l .k) (l .c) (l .m) n) (leb (l .count) (l .k)) (is-roomy (l .k) (l .c) (l .m) n (f .sizes) (f .area))
+      (le-leb (l .count) (l .k) (f .few))) h)
 
   -- a dirty entry
   pub fit-dirty : false ≡ zerosOf (drop (l .count) (l .segs)) → false ≡ fittingOf l n
@@ -233,16 +251,11 @@ pub record Sized (l : Log) (n : ℕ) : Type 0 where
   pub area : n ≡ l .k * l .c
 
 pub sized-is : (l : Log) (n : ℕ) → length (l .segs) ≡ 64
-    → sizesOf (l .k) (l .c) (l .m) && leb (l .count) (l .k) && eqb n (l .k * l .c) ≡ true → Sized l n
+    → roomyOf (l .k) (l .c) (l .m) n && leb (l .count) (l .k) ≡ true → Sized l n
 sized-is l n long h =
-    let a = and-both (sizesOf (l .k) (l .c) (l .m) && leb (l .count) (l .k)) (eqb n (l .k * l .c)) h in
-    let b = and-both (sizesOf (l .k) (l .c) (l .m)) (leb (l .count) (l .k)) (a .0) in
-    record {
-      long = long;
-      sizes = sizes-are (l .k) (l .c) (l .m) (b .0);
-      few = leb-true (l .count) (l .k) (b .1);
-      area = eqb-true n (l .k * l .c) (a .1);
-    }
+    let a = and-both (roomyOf (l .k) (l .c) (l .m) n) (leb (l .count) (l .k)) h in
+    let r = roomy-is (l .k) (l .c) (l .m) n (a .0) in
+    record { long = long; sizes = r .sizes; few = leb-true (l .count) (l .k) (a .1); area = r .area }
 
 -- as many entries are listed as the array has at most
 pub sized-count : (l : Log) (n : ℕ) → Sized l n → l .count ≤ 64

@@ -1,4 +1,4 @@
-mod Bounds
+pub mod Bounds
 pub mod View
 pub mod Slots
 pub mod Fit

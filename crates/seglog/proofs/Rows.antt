@@ -11,12 +11,14 @@ use lib.Seq.{drop-cons}
 use lib.Dec.{eqb}
 use borrow.Author.Tests.{eq-eqb, ne-eqb}
 use Rattle.lists.proofs.Cases.{by-order}
-use Rattle.seglog.specs.declared.Segment.{Segment}
-use Rattle.seglog.specs.Log.{noSegment, freshIn, apartOf, segOf, nextOf, chainOf, zeroOf, zerosOf}
+use Rattle.segment.specs.declared.Segment.{Segment}
+use Rattle.seglog.specs.Log.{freshIn, apartOf, segOf, nextOf, chainOf, zeroOf, zerosOf}
+use Rattle.segment.specs.Segment.{noSegment}
+use Rattle.lists.proofs.Distinct.{marks}
 use Rattle.lists.proofs.Bools.{both-ways, and-both, both-and, not-so}
 use Rattle.seglog.proofs.View.{listed-length, listed-at}
 use Rattle.seglog.proofs.Fit.{seg-is}
-use Rattle.seglog.proofs.Slots.{marksOf, marks-length, mark-none, mark-some}
+use Rattle.seglog.proofs.Slots.{marksOf, mark-none, mark-some}
 
 -- ---- the unused entries
 
@@ -150,7 +152,7 @@ module _ (k c n : ℕ) (gs : List Segment) (used : List ℕ) (later : Segment) (
 
         -- one segment more
         pub seen-more : getD used (g .slot) 0 ≡ 0 → Seen k c n gs (set used (g .slot) 1) g (i - 1)
-        unfolding apartOf marksOf
+        unfolding apartOf marks
         seen-more h =
             record {
               long = seen .long;

@@ -1,9 +1,10 @@
--- The test of refusal 2 decides document 01's list: a log passes exactly where it is well shaped and the area has K x C bytes.
+-- The test of refusal 2 decides document 01's list: a log passes exactly where it is well shaped and the area has K x C bytes. And what
+-- cutting a listed segment does then.
 -- `length (l .segs) ≡ 64` is the array's type. Assumes nothing.
-use mathlib.Core.Path.{_≡_, refl, sym, ap, _∙_}
+use mathlib.Core.Path.{_≡_, sym, ap, _∙_}
 use mathlib.Core.List.{List}
 use mathlib.Core.Bool.{true}
-use Prim.Native.Nat.{ℕ, suc, _+_, _-_, _*_, _%_, _≤_, _<_}
+use Prim.Native.Nat.{ℕ, suc, _+_, _-_, _*_, _≤_, _<_}
 use native.Mathlib.Numerals.{add-one}
 use native.Mathlib.Omega.{arith}
 use lib.ListN.{length, getD, take, drop, length-drop}
@@ -11,11 +12,15 @@ use lib.Seq.{getD-drop}
 use lib.Dec.{eqb}
 use borrow.Author.Tests.{eqb-true, eqb-false}
 use Rattle.lists.proofs.Cases.{by-test}
-use Rattle.seglog.specs.declared.Segment.{Segment}
+use Rattle.segment.specs.declared.Segment.{Segment}
 use Rattle.seglog.specs.declared.Log.{Log}
-use Rattle.seglog.specs.Log.{noSegment, headOf, chainOf, apartOf, endsOf, fittingOf}
-use Rattle.seglog.specs.Shape.{entry, SizesObey, WellShaped}
+use Rattle.seglog.specs.Log.{headOf, chainOf, apartOf, endsOf, fittingOf}
+use Rattle.segment.specs.Segment.{noSegment, paddedTo}
+use Rattle.segment.specs.Cut.{truncatedArea}
+use Rattle.segment.proofs.Cut.{slot-inside, truncated-padded}
+use Rattle.seglog.specs.Shape.{entry, WellShaped}
 use Rattle.seglog.proofs.View.{listed-length, listed-at, listed-head}
+use Rattle.seglog.proofs.Slots.{apart-at, at-apart}
 use Rattle.seglog.proofs.Fit.{SegmentGood, Fitting, fitting-is, is-fitting}
 use Rattle.seglog.proofs.Chain.{
   Follows,
@@ -27,8 +32,6 @@ use Rattle.seglog.proofs.Chain.{
   chain-at,
   chain-next,
   at-chain,
-  apart-at,
-  at-apart,
   zeros-at,
   at-zeros,
 }
@@ -52,6 +55,13 @@ module _ (l : Log) (long : length (l .segs) ≡ 64) where
 
     good : (i : ℕ) → i < l .count → SegmentGood (l .k) (l .c) (entry l i)
     good i h = rw (at i h) at (chain-at (l .k) (l .c) gs i (f .chain) (rw listed h))
+
+    -- a listed segment, cut at x: its missing padding is written, and no other byte changes
+    pub listed-truncated : (area : List ℕ) (i x : ℕ) → length area ≡ n → i < l .count → x ≤ l .c
+        → truncatedArea area (l .c) (entry l i .slot) (entry l i .size) x ≡ paddedTo (l .c) area (entry l i) x
+    listed-truncated area i x e h low =
+        truncated-padded area (l .c) x (entry l i)
+        (slot-inside (l .k) (l .c) (entry l i .slot) (length area) (good i h .slot) (e ∙ f .area)) low
 
     next : (i : ℕ) → i + 1 < l .count → Follows (entry l i) (entry l (i + 1))
     next i h =

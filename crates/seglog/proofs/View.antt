@@ -1,29 +1,18 @@
 -- The two forms of a log, the array of 64 entries and the list of its segments: how each gives the other, what a store into the array
 -- does to the list, and the first and the last segment. Assumes nothing.
 use mathlib.Core.Path.{_≡_, refl, sym, ap, _∙_}
-use mathlib.Core.List.{List, [], _∷_, _++_, append-assoc, map}
-use mathlib.Core.Bool.{Bool, true, _&&_}
-use Prim.Native.Nat.{ℕ, zero, suc, _+_, _-_, _≤_, _<_}
+use mathlib.Core.List.{List, [], _∷_, _++_, append-assoc}
+use mathlib.Core.Bool.{true, _&&_}
+use Prim.Native.Nat.{ℕ, zero, suc, _-_, _≤_, _<_}
 use native.Mathlib.Omega.{arith}
-use lib.ListN.{
-  length,
-  getD,
-  take,
-  drop,
-  set,
-  replicate,
-  length-append,
-  length-take,
-  length-drop,
-  length-map,
-  take-append-drop,
-}
+use lib.ListN.{length, getD, take, drop, set, replicate, length-append, length-take, length-drop, take-append-drop}
 use lib.Seq.{take-at, drop-at, getD-at, getD-take, take-suc, take-all, set-append-seam}
 use lib.Dec.{leb, eqb}
 use borrow.Author.Tests.{le-leb, leb-true, eqb-true}
-use Rattle.seglog.specs.declared.Segment.{Segment}
+use Rattle.segment.specs.declared.Segment.{Segment}
 use Rattle.seglog.specs.declared.Log.{Log}
-use Rattle.seglog.specs.Log.{noSegment, View, logOf, viewOf, headOf, frontOf, zeroOf, zerosOf, plainOf}
+use Rattle.seglog.specs.Log.{View, logOf, viewOf, headOf, frontOf, zeroOf, zerosOf, plainOf}
+use Rattle.segment.specs.Segment.{noSegment}
 use Rattle.lists.proofs.Bools.{and-both}
 
 -- ---- from one form to the other

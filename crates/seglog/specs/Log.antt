@@ -2,18 +2,15 @@
 -- (`View`); in memory these stand at the front of 64 entries, and the other entries are all zero. Assumes nothing.
 use mathlib.Core.List.{List, [], _∷_, _++_}
 use mathlib.Core.Bool.{Bool, true, false, _&&_}
-use Prim.Native.Nat.{ℕ, zero, suc, _+_, _-_, _*_, _%_}
+use Prim.Native.Nat.{ℕ, _+_, _-_, _*_, _%_}
 use lib.ListN.{length, getD, take, drop, replicate}
 use lib.Dec.{ltb, leb, eqb}
 use Rattle.lists.specs.Choice.{pick}
-use Rattle.seglog.specs.declared.Segment.{Segment}
+use Rattle.segment.specs.declared.Segment.{Segment}
+use Rattle.segment.specs.Segment.{noSegment}
 use Rattle.seglog.specs.declared.Log.{Log}
 
 -- ---- the two forms of a log
-
--- the entry of no segment
-abbrev pub noSegment : Segment
-noSegment = record { id = 0; slot = 0; size = 0; min = 0; max = 0 }
 
 -- a log by its listed segments
 pub record View : Type 0 where

@@ -1,11 +1,11 @@
 -- Document 01's list of what a well-shaped log is, a named field for each of its rules. proofs/Shape.antt shows that the tests of
 -- Log.antt decide it. Assumes nothing.
 use mathlib.Core.Path.{_≡_}
-use Prim.Native.Nat.{ℕ, _+_, _-_, _*_, _%_, _≤_, _<_}
+use Prim.Native.Nat.{ℕ, _+_, _-_, _%_, _≤_, _<_}
 use lib.ListN.{getD}
-use Rattle.seglog.specs.declared.Segment.{Segment}
+use Rattle.segment.specs.declared.Segment.{Segment}
 use Rattle.seglog.specs.declared.Log.{Log}
-use Rattle.seglog.specs.Log.{noSegment}
+use Rattle.segment.specs.Segment.{noSegment}
 
 -- the i-th entry of a log
 abbrev pub entry : Log → ℕ → Segment

@@ -2,26 +2,18 @@
 // Here: whether it is well shaped, a new log, the live range. append stands in seglog_append, the prunes in seglog_prune.
 ghost use mathlib.Core.Path.{_≡_};
 ghost use mathlib.Core.Bool.{_&&_, _||_};
-ghost use Prim.Native.Nat.{_+_, _-_, _*_, _%_};
+ghost use Prim.Native.Nat.{_+_, _-_, _%_};
 ghost use lib.ListN.{length};
-ghost use lib.Dec.{eqb, leb, ltb};
+ghost use lib.Dec.{eqb, leb};
 ghost use Rattle.lists.specs.Choice.{pick};
-ghost use Rattle.seglog.specs.Log.{sizesOf, segOf, zeroOf, fittingOf, noSegment, emptyOf, logOf};
-ghost use Rattle.seglog.specs.New.{newOf, rangeOf};
+ghost use Rattle.seglog.specs.Log.{sizesOf, segOf, zeroOf, fittingOf, emptyOf, logOf};
+ghost use Rattle.seglog.specs.New.{roomyOf, newOf, rangeOf};
 use lists::at_most;
 use lists::below;
 use lists::same;
-
-// One listed segment: its image is the first `size` bytes of its slot.
-#[repr(C)]
-pub struct Segment {
-    pub id: u32,
-    pub slot: u32,
-    pub size: u64,
-    // the lowest and the highest record id
-    pub min: u64,
-    pub max: u64,
-}
+use page::PAGE_SIZE;
+use segment::Segment;
+use segment::no_segment;
 
 // The listed segments stand first, `count` of them, the oldest at the front; the other entries are all zero.
 #[repr(C)]
@@ -65,8 +57,8 @@ fn sizes_good(k: u64, c: u64, m: u64) -> bool
 {
     let some_slot = at_most(1, k);
     let few_slots = at_most(k, 64);
-    let whole_pages = same(c % 4096, 0);
-    let a_page = at_most(4096, c);
+    let whole_pages = same(c % PAGE_SIZE, 0);
+    let a_page = at_most(PAGE_SIZE, c);
     let small = at_most(c, 2147483648);
     let soft = at_most(m, c);
     some_slot & few_slots & whole_pages & a_page & small & soft
@@ -106,15 +98,22 @@ fn follows(g: Segment, h: Segment) -> bool
     id & min
 }
 
-// Whether K, C and M obey the rules, there is room for the segments, and the area has K x C bytes.
-fn sizes_fit(k: u64, c: u64, m: u64, count: usize, bytes: usize) -> bool
-    ensures { λ r. ⌜ r ≡ (sizesOf k c m && leb count k && eqb bytes (k * c)) ⌝ }
+// Whether K, C and M obey the rules and the area has K x C bytes: not refusal 1.
+pub fn sizes_fit(k: u64, c: u64, m: u64, bytes: usize) -> bool
+    ensures { λ r. ⌜ r ≡ roomyOf k c m bytes ⌝ }
 {
     if !sizes_good(k, c, m) {
         return false;
     }
-    let few = at_most(count as u64, k);
-    few & same(bytes as u64, k * c)
+    same(bytes as u64, k * c)
+}
+
+// And whether there are at most K segments.
+fn numbers_good(k: u64, c: u64, m: u64, count: usize, bytes: usize) -> bool
+    ensures { λ r. ⌜ r ≡ (roomyOf k c m bytes && leb count k) ⌝ }
+{
+    let sizes = sizes_fit(k, c, m, bytes);
+    sizes & at_most(count as u64, k)
 }
 
 // What is asked of a listed segment g: good by itself, and the one listed after it, if any, goes on from it.
@@ -136,20 +135,8 @@ fn ends_good(start: u64, end: u64, count: usize, first: Segment, last: Segment) 
     }
     let from = at_most(first.min, start);
     let to = at_most(start, first.max);
-    let whole_pages = same(last.size % 4096, 0);
+    let whole_pages = same(last.size % PAGE_SIZE, 0);
     from & to & whole_pages & same(last.max, end)
-}
-
-fn no_segment() -> Segment
-    ensures { λ r. ⌜ r ≡ noSegment ⌝ }
-{
-    Segment {
-        id: 0,
-        slot: 0,
-        size: 0,
-        min: 0,
-        max: 0,
-    }
 }
 
 // The place of the last of n entries; 0 where there is none.
@@ -167,7 +154,7 @@ pub fn last_of(n: usize) -> usize
 pub fn fits(log: Log, bytes: usize) -> bool
     ensures { λ r. ⌜ r ≡ fittingOf log bytes ⌝ }
 {
-    if !sizes_fit(log.k, log.c, log.m, log.count, bytes) {
+    if !numbers_good(log.k, log.c, log.m, log.count, bytes) {
         return false;
     }
     let mut unused: usize = log.count;
@@ -198,8 +185,8 @@ pub fn fits(log: Log, bytes: usize) -> bool
     ends_good(log.start, log.end, log.count, log.segs[0], log.segs[at])
 }
 
-// A log with no segments.
-fn empty_log(k: u64, c: u64, m: u64) -> Log
+// A log with no segments, whatever the numbers.
+pub fn empty_log(k: u64, c: u64, m: u64) -> Log
     ensures { λ r. ⌜ r ≡ logOf (emptyOf k c m) ⌝ }
 {
     Log {
@@ -217,13 +204,7 @@ fn empty_log(k: u64, c: u64, m: u64) -> Log
 pub fn new_log(k: u64, c: u64, m: u64, area: &mut [u8]) -> Logged
     ensures { λ r. ⌜ (r ≡ newOf k c m (length (now (area .entry)))) × (now (area .exit) ≡ now (area .entry)) ⌝ }
 {
-    if !sizes_good(k, c, m) {
-        return Logged {
-            refusal: 1,
-            log: empty_log(0, 0, 0),
-        };
-    }
-    if area.len() as u64 != k * c {
+    if !sizes_fit(k, c, m, area.len()) {
         return Logged {
             refusal: 1,
             log: empty_log(0, 0, 0),

@@ -1,6 +1,6 @@
 -- The lowest free slot: it is free, and none before it is; and the turns of the two loops that look for it.
 -- Assumes nothing.
-use mathlib.Core.Path.{_≡_, refl, sym, ap, _∙_, subst}
+use mathlib.Core.Path.{_≡_, refl, sym, ap, _∙_}
 use mathlib.Core.List.{List, [], _∷_}
 use mathlib.Core.Bool.{Bool, true, false}
 use Prim.Native.Nat.{ℕ, zero, suc, _+_, _-_, _*_, _≤_, _<_}
@@ -10,13 +10,16 @@ use lib.ListN.{length, getD, set, take, drop, drop-of-length-le}
 use lib.Seq.{drop-cons}
 use Rattle.lists.specs.Choice.{pick}
 use Rattle.lists.proofs.Cases.{by-test, by-order}
-use Rattle.seglog.specs.declared.Segment.{Segment}
+use Rattle.lists.proofs.Distinct.{marks}
+use Rattle.lists.proofs.Each.{every-at}
+use Rattle.segment.specs.declared.Segment.{Segment}
 use Rattle.seglog.specs.declared.Log.{Log}
-use Rattle.seglog.specs.Log.{noSegment, freshIn, fittingOf}
+use Rattle.seglog.specs.Log.{freshIn, fittingOf}
+use Rattle.segment.specs.Segment.{noSegment}
 use Rattle.seglog.proofs.View.{listed-length, listed-at}
-use Rattle.seglog.proofs.Slots.{Below, marksOf, mark-none, mark-some}
+use Rattle.seglog.proofs.Slots.{marksOf}
 use Rattle.seglog.proofs.Fit.{Fitting, fitting-is, chain-below}
-use Rattle.seglog_append.specs.Append.{freeFrom}
+use Rattle.seglog_append.specs.Deciding.{freeFrom}
 
 -- ---- what is found
 
@@ -74,12 +77,6 @@ pub free-none : (k i : ℕ) (gs : List Segment) → k ≤ i → freeFrom (k - i)
 unfolding freeFrom
 free-none k i gs h = let n : k - i ≡ 0 = omega arith in ap (λ (j : ℕ). freeFrom j i gs) n
 
--- a segment of a list has a slot below k
-below-at : (k : ℕ) (gs : List Segment) (i : ℕ) → Below k gs → i < length gs → getD gs i noSegment .slot < k
-below-at k [] i b h = absurd (omega arith)
-below-at k (g ∷ gs) zero b h = b .0
-below-at k (g ∷ gs) (suc i) b h = below-at k gs i (b .1) (omega arith)
-
 -- a log that fits, the slots of its segments from i on marked
 pub record Marked (l : Log) (used : List ℕ) (i : ℕ) : Type 0 where
   pub long : length (l .segs) ≡ 64
@@ -116,14 +113,14 @@ module _ (l : Log) (used : List ℕ) (i : ℕ) (m : Marked l used i) where
     -- the next segment's slot has a mark
     pub marked-slot : g .slot < 64
     marked-slot =
-        let b = below-at (l .k) gs (i - 1) (chain-below (l .k) (l .c) gs (m .fit .chain))
+        let b = every-at (λ (x : Segment). x .slot < l .k) noSegment gs (i - 1) (chain-below (l .k) (l .c) gs (m .fit .chain))
         (omega (arith, m .within, listed-length (l .count) (l .segs) (m .long) few)) in
         let same : getD gs (i - 1) noSegment .slot ≡ g .slot = ap (λ (x : Segment). x .slot) at-g in
         omega (arith, b, same, m .fit .sizes .few-slots)
 
     -- one mark more
     pub marked-more : Marked l (set used (g .slot) 1) (i - 1)
-    unfolding marksOf
+    unfolding marks
     marked-more =
         let back : suc (i - 1) ≡ i = omega arith in
         let one : drop (i - 1) gs ≡ g ∷ drop i gs =

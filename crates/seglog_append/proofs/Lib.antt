@@ -1,5 +1,5 @@
-mod Bounds
 pub mod Free
-pub mod Ways
-pub mod Shaped
+pub mod Deciding
+pub mod Appending
+pub mod AppendShape
 pub mod Unique

@@ -1,7 +1,6 @@
 -- The bounds that `prune_recent` asks, over plain numbers: at a place of its code much else is in scope, which `omega` would read.
 -- Assumes nothing.
 use mathlib.Core.List.{List}
-use mathlib.Core.Path.{_≡_}
 use Prim.Native.Nat.{ℕ, _+_, _-_, _*_, _≤_, _<_}
 use lib.ListN.{length, take, length-take}
 use native.Mathlib.Omega.{arith}
@@ -30,14 +29,7 @@ part-within a b c h l = omega arith
 pub start-first : (a b : ℕ) → a ≤ a + b
 start-first a b = omega arith
 
--- the bytes from b to x, counted from a
-pub rest-of : (a b x : ℕ) → a + x - (a + b) ≡ x - b
-rest-of a b x = omega arith
-
 -- ---- an image is no longer than a slot
 
 pub take-within : (b : ℕ) (l : List ℕ) {c : ℕ} → b ≤ c → length (take b l) ≤ c
 take-within b l h = omega (arith, length-take b l)
-
-pub image-room : {a b c : ℕ} → a ≡ b → b ≤ c → c ≤ 2147483648 → a ≤ 2147483648
-image-room e h s = omega arith

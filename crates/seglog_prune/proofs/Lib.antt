@@ -1,10 +1,10 @@
 mod Bounds
-pub mod Drops
-pub mod Cut
 pub mod Decide
-pub mod Kept
-pub mod Inside
-pub mod Ways
-pub mod Shape
-pub mod Frame
+pub mod Drop
+pub mod DropKept
+pub mod Cut
+pub mod PruneInside
+pub mod Prune
+pub mod PruneShape
+pub mod PruneFrame
 pub mod Unique

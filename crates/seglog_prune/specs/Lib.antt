@@ -1,2 +1,5 @@
+pub mod Decide
+pub mod Drop
+pub mod Cut
 pub mod Prune
 pub mod Steps

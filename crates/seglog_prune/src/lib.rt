@@ -3,15 +3,19 @@
 ghost use mathlib.Core.Path.{_≡_};
 ghost use mathlib.Core.List.{_++_};
 ghost use Prim.Native.Nat.{_-_, _≤_, _<_};
-ghost use lib.ListN.{length, take, drop, replicate};
+ghost use lib.ListN.{take, drop, replicate};
 ghost use mathlib.Core.Bool.{true};
-ghost use Rattle.seglog.specs.Log.{noSegment, logOf, viewOf, emptyOf, plainOf};
-ghost use Rattle.seglog_prune.specs.Prune.{dropOld, startedAt, dropNew, findCut, oldestLog, recentLog, pruneAnswer, pruneArea};
-ghost use Rattle.seglog_prune.specs.Steps.{earlyOf, settledOf, endedLog, cutOf};
-use record::HeaderAnswer;
+ghost use Rattle.seglog.specs.Log.{logOf, viewOf, plainOf, fittingOf};
+ghost use Rattle.segment.specs.Segment.{noSegment};
+ghost use Rattle.seglog_prune.specs.Decide.{earlyOf};
+ghost use Rattle.seglog_prune.specs.Drop.{dropOld, dropNew};
+ghost use Rattle.seglog_prune.specs.Cut.{findCut, cutOf};
+ghost use Rattle.seglog_prune.specs.Prune.{startedAt, oldestLog, recentLog, pruneAnswer, pruneArea};
+ghost use Rattle.seglog_prune.specs.Steps.{settledOf, endedLog};
 use seglog::Log;
 use seglog::Logged;
-use seglog::Segment;
+use segment::Segment;
+use walk::RecordAnswer;
 
 // How far the tests that both prunes share lead.
 enum Early {
@@ -28,14 +32,6 @@ enum CutAnswer {
     At(u64),
     Lost,
 }
-
-const NO_SEGMENT: Segment = Segment {
-    id: 0,
-    slot: 0,
-    size: 0,
-    min: 0,
-    max: 0,
-};
 
 // How many leading segments have a max below n; never all of them.
 fn leading(segs: [Segment; 64], count: usize, n: u64) -> usize
@@ -61,7 +57,7 @@ fn cleared(segs: [Segment; 64], left: usize) -> [Segment; 64]
     let mut out = segs;
     let mut i: usize = 0;
     while i < 64 - left {
-        out[left + i] = NO_SEGMENT;
+        out[left + i] = segment::no_segment();
         i += 1;
     }
     out
@@ -97,33 +93,31 @@ fn remaining(segs: [Segment; 64], count: usize, n: u64) -> usize
     0
 }
 
-// The padded end of the first record of an image that has the id n.
+// The padded end of the first record of an image that has the id n. A payload past the image ends the search, whose ever it is.
 fn find_cut(img: &[u8], n: u64) -> CutAnswer
-    requires { ⌜ length (now img) ≤ 2147483648 ⌝ }
     ensures { λ r. ⌜ cutOf r ≡ findCut (now (img .entry)) n 0 ⌝ }
 {
     let size = img.len() as u64;
     let mut at: u64 = 0;
     while at < size {
-        let HeaderAnswer::Header(header) = record::read_header(img, at as usize) else {
+        let answer = record::read_header(img, at as usize);
+        let RecordAnswer::Record(found) = walk::record_at(size, at, answer) else {
             return CutAnswer::Lost;
         };
-        let end = at + 12 + header.length as u64;
-        if size < end {
+        if size < found.end {
             return CutAnswer::Lost;
         }
-        let next = page::reader_next_pos(end as u32);
-        if header.id == n {
-            return CutAnswer::At(next);
+        if found.id == n {
+            return CutAnswer::At(found.next);
         }
-        at = next;
+        at = found.next;
     }
     CutAnswer::Lost
 }
 
 // 2, the two easy outcomes, 8, 9.
 fn decide_early(log: Log, bytes: usize, n: u64) -> Early
-    ensures { λ r. ⌜ r ≡ earlyOf log bytes n ⌝ }
+    ensures { λ r. ⌜ r ≡ earlyOf (viewOf log) (fittingOf log bytes) n ⌝ }
 {
     if !seglog::fits(log, bytes) {
         return Early::Refused(2);
@@ -143,22 +137,6 @@ fn decide_early(log: Log, bytes: usize, n: u64) -> Early
     Early::Onward
 }
 
-// The log with no segments.
-fn emptied(log: Log) -> Log
-    ensures { λ r. ⌜ r ≡ logOf (emptyOf (log .k) (log .c) (log .m)) ⌝ }
-{
-    let segs = log.segs;
-    Log {
-        k: log.k,
-        c: log.c,
-        m: log.m,
-        start: 0,
-        end: 0,
-        count: 0,
-        segs: cleared(segs, 0),
-    }
-}
-
 // The answer where the shared tests decide.
 fn settled(log: Log, outcome: Early) -> Logged
     ensures { λ r. ⌜ r ≡ settledOf log outcome ⌝ }
@@ -170,7 +148,7 @@ fn settled(log: Log, outcome: Early) -> Logged
         },
         Early::Empty => Logged {
             refusal: 0,
-            log: emptied(log),
+            log: seglog::empty_log(log.k, log.c, log.m),
         },
         Early::Same | Early::Onward => Logged { refusal: 0, log },
     }
@@ -203,13 +181,7 @@ fn ended(log: Log, left: usize, n: u64, x: u64) -> Log
     let mut segs = cleared(all, left);
     let at = left - 1;
     let g = segs[at];
-    segs[at] = Segment {
-        id: g.id,
-        slot: g.slot,
-        size: x,
-        min: g.min,
-        max: n,
-    };
+    segs[at] = segment::ended_at(g, n, x);
     Log {
         k: log.k,
         c: log.c,
@@ -253,7 +225,7 @@ pub fn prune_recent(log: Log, area: &mut [u8], new_end_live: u64) -> Logged
     let CutAnswer::At(end) = find_cut(&area[from..to], new_end_live) else {
         return Logged { refusal: 10, log };
     };
-    lists::zero_fill(area, to, from + end as usize);
+    segment::truncate(area, log.c, head.slot, head.size, end);
     Logged {
         refusal: 0,
         log: ended(log, left, new_end_live, end),

@@ -11,10 +11,10 @@ use lib.ListN.{length, getD, set, drop, length-set, length-append}
 use lib.Seq.{drop-cons, getD-set-same, drop-set-lt}
 use lib.Dec.{leb}
 use borrow.Author.Tests.{leb-true, le-leb, ne-eqb}
+use Rattle.lists.proofs.Bools.{and-both}
 use Rattle.lists.proofs.Cases.{pick-either}
 use Rattle.segment_filename.specs.Words.{same, startsWith}
 use Rattle.segment_filename.specs.Digits.{digits, isDigit, allDigits, valueFrom, plus, signLength, unsigned}
-use Rattle.segment_filename.proofs.Words.{and-both}
 
 -- one more digit, in front of those that are written
 pub digits-turn : (i v : ℕ) (bytes : List ℕ) → i < length bytes

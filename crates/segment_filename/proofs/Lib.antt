@@ -1,6 +1,6 @@
 pub mod Words
 pub mod Digits
-pub mod Written
-pub mod Steps
+pub mod Formatting
+pub mod Parsing
 pub mod RoundTrip
 pub mod Unique

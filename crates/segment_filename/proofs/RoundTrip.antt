@@ -7,19 +7,19 @@ use Prim.Native.Nat.{ℕ, _+_, _^_, _≤_, _<_}
 use native.Mathlib.Omega.{arith}
 use lib.ListN.{length, take, drop}
 use borrow.Author.Tests.{le-leb}
+use Rattle.lists.specs.Outcome.{done}
 use Rattle.lists.specs.Splice.{splice}
 use Rattle.lists.proofs.Cases.{by-order}
+use Rattle.lists.proofs.Outcome.{refused-is-not-done, done-injective}
 use Rattle.lists.proofs.Splice.{splice-inside, splice-behind}
-use Rattle.segment_filename.specs.declared.Formatted.the-variants.{Length}
-use Rattle.segment_filename.specs.declared.Parsed.the-variants.{Id}
 use Rattle.segment_filename.specs.Words.{startsWith, endsWith, behind, before}
 use Rattle.segment_filename.specs.Digits.{digits, valueFrom, unsigned, isU32, valueOf}
-use Rattle.segment_filename.specs.Format.{dot, suffix, nameOf, formattedOf, formattedInto}
-use Rattle.segment_filename.specs.Parse.{withoutPrefix, withoutSuffix, idBytes, parsedOf}
+use Rattle.segment_filename.specs.Formatting.{dot, suffix, nameOf, formatOf, formatInto}
+use Rattle.segment_filename.specs.Parsing.{withoutPrefix, withoutSuffix, idBytes, parseOf}
 use Rattle.segment_filename.proofs.Words.{starts-append, behind-append, ends-append, before-append}
 use Rattle.segment_filename.proofs.Digits.{digits-length, digits-are-digits, digits-value, digits-unsigned, digits-injective}
-use Rattle.segment_filename.proofs.Written.{name-length, given-empty, given-short, given-fits}
-use Rattle.segment_filename.proofs.Steps.{step-35}
+use Rattle.segment_filename.proofs.Formatting.{name-length, format-refuses-30, format-refuses-36, format-accepts}
+use Rattle.segment_filename.proofs.Parsing.{parse-reads}
 
 -- an id of 32 bits has ten digits at most
 id-places : (id : ℕ) → id < 2 ^ 32 → id < 10 ^ 10
@@ -49,13 +49,13 @@ module _ (prefix : List ℕ) (id : ℕ) where
   name-dotted = ap (startsWith dot) name-stem ∙ starts-append dot (digits 10 id)
 
   -- the name of a segment is read as its id, for any prefix that isn't empty and any id of 32 bits
-  pub parse-name : (length prefix ≡ 0 → ⊥) → id < 2 ^ 32 → parsedOf prefix (nameOf prefix id) ≡ Id id
+  pub parse-name : (length prefix ≡ 0 → ⊥) → id < 2 ^ 32 → parseOf prefix (nameOf prefix id) ≡ done id
   parse-name some small =
       let whole : unsigned (digits 10 id) ≡ digits 10 id = digits-unsigned (digits 10 id) (digits-are-digits 10 id) in
       let value : valueOf (digits 10 id) ≡ id = ap (valueFrom 0) whole ∙ digits-value 10 id (id-places id small) in
       let good : isU32 (digits 10 id) ≡ true =
       rw (value, le-leb id 4294967295 (omega arith)) (rw (whole, digits-are-digits 10 id) refl) in
-      step-35 prefix (nameOf prefix id) some name-begins name-ends name-dotted (ap length name-digits ∙ digits-length 10 id)
+      parse-reads prefix (nameOf prefix id) some name-begins name-ends name-dotted (ap length name-digits ∙ digits-length 10 id)
       ∙ rw (name-digits, good, value) refl
 
 -- two ids give different names
@@ -63,38 +63,36 @@ pub format-injective : (prefix : List ℕ) (a b : ℕ) → a < 2 ^ 32 → b < 2 
 format-injective prefix a b h g e =
     digits-injective 10 a b (id-places a h) (id-places b g) (sym (name-digits prefix a) ∙ ap (idBytes prefix) e ∙ name-digits prefix b)
 
-module _ (prefix : List ℕ) (id : ℕ) (out : List ℕ) (n : ℕ) (accepted : formattedOf prefix (length out) ≡ Length n) where
+module _ (prefix : List ℕ) (id : ℕ) (out : List ℕ) (n : ℕ) (accepted : formatOf prefix (length out) ≡ done n) where
   -- an accepted prefix isn't empty
   pub format-prefix : length prefix ≡ 0 → ⊥
-  format-prefix h =
-      let refused = given-empty prefix id out h .0 in let z : _≡_ {A = ℕ} 0 1 = cc in omega arith
+  format-prefix h = refused-is-not-done (format-refuses-30 prefix id out h .0 ∙ accepted)
 
   -- an accepted name has room
   pub format-room : length prefix + 15 ≤ length out
   format-room =
       by-order (length prefix + 15) (length out) (λ h. h)
-      (λ h. let refused = given-short prefix id out format-prefix h .0 in let z : _≡_ {A = ℕ} 0 1 = cc in absurd (omega arith))
+      (λ h. refused-is-not-done (format-refuses-36 prefix id out format-prefix h .0 ∙ accepted))
 
   -- the answer is the name's length
   pub format-length : n ≡ length (nameOf prefix id)
   format-length =
-      let fits = given-fits prefix id out format-prefix format-room .0 in
-      let m : length prefix + 15 ≡ n = cc in sym m ∙ sym (name-length prefix id)
+      sym (done-injective (format-accepts prefix id out format-prefix format-room .0 ∙ accepted)) ∙ sym (name-length prefix id)
 
-  into : formattedInto prefix id out ≡ splice 0 (nameOf prefix id) out
-  into = sym (given-fits prefix id out format-prefix format-room .1)
+  into : formatInto prefix id out ≡ splice 0 (nameOf prefix id) out
+  into = sym (format-accepts prefix id out format-prefix format-room .1)
 
   room : 0 + length (nameOf prefix id) ≤ length out
   room = omega (arith, name-length prefix id, format-room)
 
   -- so many bytes of the buffer are the name
-  pub format-written : take n (formattedInto prefix id out) ≡ nameOf prefix id
+  pub format-written : take n (formatInto prefix id out) ≡ nameOf prefix id
   format-written = rw (into, format-length) (splice-inside 0 (nameOf prefix id) out room)
 
   -- later bytes stay
-  pub format-later : drop n (formattedInto prefix id out) ≡ drop n out
+  pub format-later : drop n (formatInto prefix id out) ≡ drop n out
   format-later = rw into (splice-behind 0 (nameOf prefix id) out n (omega (arith, format-length)))
 
   -- what is written is read back as the same id
-  pub parse-format : id < 2 ^ 32 → parsedOf prefix (take n (formattedInto prefix id out)) ≡ Id id
+  pub parse-format : id < 2 ^ 32 → parseOf prefix (take n (formatInto prefix id out)) ≡ done id
   parse-format small = rw format-written (parse-name prefix id format-prefix small)

@@ -1,7 +1,7 @@
 -- The laws of words: when two lists have the same bytes, and what a list that begins or ends with a word is made of.
 -- Assumes nothing.
 use mathlib.Core.Path.{_≡_, refl, sym, ap, _∙_}
-use mathlib.Core.Bool.{Bool, true, false, _&&_, false≢true}
+use mathlib.Core.Bool.{true, false}
 use mathlib.Core.List.{List, [], _∷_, _++_}
 use Prim.Native.Nat.{ℕ, _+_, _-_, _≤_, _<_}
 use native.Mathlib.Omega.{arith}
@@ -10,14 +10,10 @@ use lib.Seq.{ext-getD, getD-take, getD-drop, take-all, take-append-seam, drop-ap
 use lib.Dec.{eqb}
 use borrow.Author.Tests.{eqb-true, eq-eqb}
 use Rattle.lists.specs.Splice.{part}
+use Rattle.lists.proofs.Bools.{and-both, clash}
 use Rattle.lists.proofs.Cases.{by-test}
 use Rattle.lists.proofs.Splice.{part-length}
 use Rattle.segment_filename.specs.Words.{same, startsWith, endsWith, behind, before}
-
--- two tests that both hold
-pub and-both : (a b : Bool) → a && b ≡ true → (a ≡ true) × (b ≡ true)
-and-both true b h = (refl, h)
-and-both false b h = absurd (false≢true h)
 
 -- a list has the same bytes as itself
 pub same-refl : (l : List ℕ) → same l l ≡ true
@@ -29,8 +25,8 @@ same-refl (x ∷ l) = rw (eq-eqb x x refl) (same-refl l)
 pub same-true : (k l : List ℕ) → same k l ≡ true → k ≡ l
 unfolding same
 same-true [] [] h = refl
-same-true [] (y ∷ l) h = absurd (false≢true h)
-same-true (x ∷ k) [] h = absurd (false≢true h)
+same-true [] (y ∷ l) h = clash h
+same-true (x ∷ k) [] h = clash h
 same-true (x ∷ k) (y ∷ l) h =
     let both = and-both (eqb x y) (same k l) h in rw (eqb-true x y (both .0), same-true k l (both .1)) refl
 

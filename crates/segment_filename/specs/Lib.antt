@@ -1,4 +1,4 @@
 pub mod Words
 pub mod Digits
-pub mod Format
-pub mod Parse
+pub mod Formatting
+pub mod Parsing

@@ -3,12 +3,11 @@
 ghost use mathlib.Core.Path.{_≡_};
 ghost use Prim.Native.Nat.{_≤_};
 ghost use lib.ListN.{length};
-ghost use Rattle.lists.specs.Choice.{pick};
 ghost use Rattle.lists.specs.Splice.{part};
 ghost use Rattle.segment_filename.specs.Words.{same, endsWith};
-ghost use Rattle.segment_filename.specs.Digits.{digits, isDigit, signLength, isU32, valueOf};
-ghost use Rattle.segment_filename.specs.Format.{formatRefusal, formatLength, formattedOf, formattedInto};
-ghost use Rattle.segment_filename.specs.Parse.{parseRefusal, parseId, parsedOf};
+ghost use Rattle.segment_filename.specs.Digits.{digits, isDigit, signLength};
+ghost use Rattle.segment_filename.specs.Formatting.{formatOutcome, formatNumber, formatLength, formatOf, formatInto};
+ghost use Rattle.segment_filename.specs.Parsing.{parseOutcome, parseNumber, parseId, u32Of, parseOf};
 
 // What `format` answers: the name's length, or why nothing was written.
 pub enum Formatted {
@@ -19,7 +18,7 @@ pub enum Formatted {
 
 // Document 01's number of an answer of `format`, 0 where it is accepted.
 pub fn formatted_number(answer: Formatted) -> u32
-    ensures { λ r. ⌜ r ≡ formatRefusal answer ⌝ }
+    ensures { λ r. ⌜ r ≡ formatNumber answer ⌝ }
 {
     match answer {
         Formatted::Length(_) => 0,
@@ -52,7 +51,7 @@ pub enum Parsed {
 
 // Document 01's number of an answer of `parse`, 0 where it is accepted.
 pub fn parsed_number(answer: Parsed) -> u32
-    ensures { λ r. ⌜ r ≡ parseRefusal answer ⌝ }
+    ensures { λ r. ⌜ r ≡ parseNumber answer ⌝ }
 {
     match answer {
         Parsed::Id(_) => 0,
@@ -97,8 +96,8 @@ fn ten_digits(id: u32) -> [u8; 10]
 
 // Writes the name of segment `id` at the front of out, and answers its length.
 pub fn format(prefix: &[u8], id: u32, out: &mut [u8]) -> Formatted
-    ensures answer { λ r. ⌜ r ≡ formattedOf (now (prefix .entry)) (length (now (out .entry))) ⌝ }
-    ensures buffer { λ _. ⌜ now (out .exit) ≡ formattedInto (now (prefix .entry)) id (now (out .entry)) ⌝ }
+    ensures answer { λ r. ⌜ formatOutcome r ≡ formatOf (now (prefix .entry)) (length (now (out .entry))) ⌝ }
+    ensures buffer { λ _. ⌜ now (out .exit) ≡ formatInto (now (prefix .entry)) id (now (out .entry)) ⌝ }
 {
     let n = prefix.len();
     if n == 0 {
@@ -166,7 +165,7 @@ fn sign_length(s: &[u8]) -> usize
 // The number of ten bytes, as Rust's `parse::<u32>` reads it.
 fn parse_u32(ten: &[u8]) -> Parsed
     requires { ⌜ length (now ten) ≡ 10 ⌝ }
-    ensures { λ r. ⌜ r ≡ pick (isU32 (now (ten .entry))) (Parsed.Id (valueOf (now (ten .entry)))) Parsed.NotU32 ⌝ }
+    ensures { λ r. ⌜ parseOutcome r ≡ u32Of (now (ten .entry)) ⌝ }
 {
     let mut value: u64 = 0;
     let mut i = sign_length(ten);
@@ -186,7 +185,7 @@ fn parse_u32(ten: &[u8]) -> Parsed
 
 // The id of the segment that `name` is the name of, under `prefix`.
 pub fn parse(prefix: &[u8], name: &[u8]) -> Parsed
-    ensures { λ r. ⌜ r ≡ parsedOf (now (prefix .entry)) (now (name .entry)) ⌝ }
+    ensures { λ r. ⌜ parseOutcome r ≡ parseOf (now (prefix .entry)) (now (name .entry)) ⌝ }
 {
     let n = prefix.len();
     if n == 0 {

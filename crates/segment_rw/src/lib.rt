@@ -1,11 +1,12 @@
 // A record written to a segment's slot, through a writer that is lent and changed in place (`SegmentFileWriter` of the Rust's
-// segment_rw.rs: `write_header`, `write_payload`, `file_size`). No public function takes the writer.
+// segment_rw.rs: `write_header`, `write_payload`, `file_size`). No public function takes the writer. The room that the record takes,
+// padding included, is the caller's: whoever decides where a record goes has worked it out.
 ghost use mathlib.Core.Path.{_≡_};
-ghost use Prim.Native.Nat.{_+_, _≤_};
-ghost use lib.ListN.{length};
 ghost use Rattle.lists.specs.Splice.{splice};
-ghost use Rattle.record.specs.Record.{maxPayload, recordRoom, recordBytes};
-ghost use Rattle.segment_rw.specs.Writer.{fitsSlot, areaAfter, writtenBy, Wrote};
+ghost use Rattle.segment_rw.specs.Writer.{fitsSlot, recordIn, areaAfter, writtenBy, PutPre, Wrote};
+ghost use lib.ListN.{length};
+use record::HEADER_SIZE;
+use record::MAX_RECORD_PAYLOAD_SIZE;
 use record::RecordHeader;
 
 // Where the next record of a segment goes.
@@ -14,81 +15,94 @@ struct SegmentWriter {
     size: u64,
 }
 
-// Whether a payload of n bytes fits behind `size` in a slot of `capacity` bytes, and the slot lies in an area of `all` bytes.
-fn fits_slot(capacity: u64, slot: u32, size: u64, n: usize, all: usize) -> bool
-    ensures { λ r. ⌜ r ≡ fitsSlot capacity slot size n all ⌝ }
+// Whether a record of n payload bytes has its place in `room` bytes behind `size` of a slot of c bytes, in an area of `bytes` bytes.
+fn fits_slot(c: u64, slot: u32, size: u64, room: u64, n: usize, bytes: usize) -> bool
+    ensures { λ r. ⌜ r ≡ fitsSlot c slot size room n bytes ⌝ }
 {
-    if 2147483648 < capacity {
+    if (MAX_RECORD_PAYLOAD_SIZE as usize) < n {
         return false;
     }
-    if 1073741824 < n {
+    if room < HEADER_SIZE as u64 + n as u64 {
         return false;
     }
-    let room = page::writer_next_pos(12 + n as u32);
-    if capacity < room {
+    if c < room {
         return false;
     }
-    if capacity - room < size {
+    if c - room < size {
         return false;
     }
-    slot as u64 * capacity + capacity <= all as u64
+    segment::slot_inside(c, slot, bytes)
 }
 
-// Header, payload and zeros, from `at` on; the room that they take.
-fn put_record(area: &mut [u8], at: usize, id: u64, payload: &[u8]) -> u64
-    requires { ⌜ (length (now payload) ≤ maxPayload) × (at + recordRoom (length (now payload)) ≤ length (now area)) ⌝ }
-    ensures room { λ r. ⌜ r ≡ recordRoom (length (now (payload .entry))) ⌝ }
-    ensures bytes { λ _. ⌜ now (area .exit) ≡ splice at (recordBytes id (now (payload .entry))) (now (area .entry)) ⌝ }
+// Header, payload and zeros, from `at` on, `room` bytes in all. The header writer is lent the slot, which ends at `end`, from `at` on.
+fn put_record(area: &mut [u8], at: usize, end: usize, room: usize, id: u64, payload: &[u8])
+    requires { ⌜ PutPre at end room (length (now payload)) (length (now area)) ⌝ }
+    ensures { λ _. ⌜ now (area .exit) ≡ splice at (recordIn room id (now (payload .entry))) (now (area .entry)) ⌝ }
 {
     let n = payload.len();
     record::write_header(
-        &mut area[at..],
+        &mut area[at..end],
         RecordHeader {
             length: n as u32,
             id,
         },
     );
-    lists::copy_into(area, at + 12, payload);
-    let room = page::writer_next_pos(12 + n as u32);
-    lists::zero_fill(area, at + 12 + n, at + room as usize);
-    room
+    lists::copy_into(area, at + HEADER_SIZE, payload);
+    lists::zero_fill(area, at + HEADER_SIZE + n, at + room);
 }
 
 // Writes the record where it fits; the segment's size afterwards.
-fn write_at(area: &mut [u8], capacity: u64, slot: u32, size: u64, id: u64, payload: &[u8]) -> u64
-    ensures { λ r. ⌜ Wrote capacity slot size id (now (payload .entry)) (now (area .entry)) r (now (area .exit)) ⌝ }
+fn write_at(
+    area: &mut [u8],
+    c: u64,
+    slot: u32,
+    size: u64,
+    room: u64,
+    id: u64,
+    payload: &[u8],
+) -> u64
+    ensures { λ r. ⌜ Wrote c slot size room id (now (payload .entry)) (now (area .entry)) r (now (area .exit)) ⌝ }
 {
-    if !fits_slot(capacity, slot, size, payload.len(), area.len()) {
+    if !fits_slot(c, slot, size, room, payload.len(), area.len()) {
         return size;
     }
-    let at = (slot as u64 * capacity + size) as usize;
-    size + put_record(area, at, id, payload)
+    let from = slot as u64 * c;
+    put_record(
+        area,
+        (from + size) as usize,
+        (from + c) as usize,
+        room as usize,
+        id,
+        payload,
+    );
+    size + room
 }
 
 // The same through the writer, which is lent: the new size is stored once header and payload are written.
-fn write_record(w: &mut SegmentWriter, area: &mut [u8], capacity: u64, id: u64, payload: &[u8])
-    ensures { λ _. ⌜ (now (w .exit) ≡ writtenBy (now (w .entry)) capacity (length (now (payload .entry))) (length (now (area .entry))))
-        × (now (area .exit) ≡ areaAfter capacity (now (w .entry) .slot) (now (w .entry) .size) id (now (payload .entry))
+fn write_record(w: &mut SegmentWriter, area: &mut [u8], c: u64, room: u64, id: u64, payload: &[u8])
+    ensures { λ _. ⌜ (now (w .exit) ≡ writtenBy (now (w .entry)) c room (length (now (payload .entry))) (length (now (area .entry))))
+        × (now (area .exit) ≡ areaAfter c (now (w .entry) .slot) (now (w .entry) .size) room id (now (payload .entry))
         (now (area .entry))) ⌝ }
 {
     let slot = w.slot;
     let size = w.size;
-    let next = write_at(area, capacity, slot, size, id, payload);
+    let next = write_at(area, c, slot, size, room, id, payload);
     w.size = next;
 }
 
 // Writes a record behind the first `size` bytes of a segment's slot, where it fits; the segment's size afterwards.
 pub fn append_record(
     area: &mut [u8],
-    capacity: u64,
+    c: u64,
     slot: u32,
     size: u64,
+    room: u64,
     id: u64,
     payload: &[u8],
 ) -> u64
-    ensures { λ r. ⌜ Wrote capacity slot size id (now (payload .entry)) (now (area .entry)) r (now (area .exit)) ⌝ }
+    ensures { λ r. ⌜ Wrote c slot size room id (now (payload .entry)) (now (area .entry)) r (now (area .exit)) ⌝ }
 {
     let mut w = SegmentWriter { slot, size };
-    write_record(&mut w, area, capacity, id, payload);
+    write_record(&mut w, area, c, room, id, payload);
     w.size
 }

@@ -6,14 +6,15 @@ use Rattle.lists.specs.Splice.{splice}
 use Rattle.page.specs.Page.{paddedEnd}
 use Rattle.page.proofs.Page.{pad-rounded}
 use Rattle.record.specs.Record.{recordRoom}
-use Rattle.little_endian.specs.LittleEndian.{leAt, leBytes, u32At}
+use Rattle.little_endian.specs.LittleEndian.{leAt, leBytes, numberAt, u32At}
 use Rattle.segment_filename.specs.Words.{same, startsWith, endsWith}
 use Rattle.segment_filename.specs.Digits.{digits, allDigits, valueFrom, signLength}
-use Rattle.segment_filename.specs.Format.{nameOf, formatRefusal, formatLength, formattedOf}
-use Rattle.segment_filename.specs.Parse.{parseRefusal, parseId, parsedOf}
+use Rattle.segment_filename.specs.Formatting.{nameOf, formatOf}
+use Rattle.segment_filename.specs.Parsing.{parseOf}
 use Rattle.keys.specs.Order.{compareKeys}
-use Rattle.keys.specs.Place.{rank}
-use Rattle.keys.specs.Sort.{any, sortBy, clash}
+use Rattle.lists.specs.Each.{any}
+use Rattle.lists.specs.Sort.{insert, sort}
+use Rattle.keys.specs.Sorting.{clash}
 use Rattle.delta.specs.Reading.{eraseAt, reinstateAt, group, reinstates, reading, walk}
 use Rattle.delta_encode.specs.Bytes.{concat, sum, deltaBytes, encodedOf}
 use Rattle.specimens.specs.Specimens.{Specimens}
@@ -25,20 +26,17 @@ room n = pad-rounded 4096 (12 + n) (lit< tt)
 
 -- the table
 pub specimens : Specimens
-unfolding nameOf formattedOf parsedOf same startsWith endsWith digits allDigits valueFrom signLength leAt leBytes u32At compareKeys rank any sortBy clash eraseAt reinstateAt group reinstates reading walk concat sum deltaBytes encodedOf splice
+unfolding nameOf formatOf parseOf same startsWith endsWith digits allDigits valueFrom signLength leAt leBytes numberAt u32At compareKeys any insert sort clash eraseAt reinstateAt group reinstates reading walk concat sum deltaBytes encodedOf splice
 specimens =
     record {
       one-page = room 4084;
       two-pages = room 4085;
       no-payload = room 0;
       name = refl;
-      name-answer = refl;
       name-length = refl;
-      largest-answer = refl;
-      largest-id = refl;
+      largest = refl;
       too-large = refl;
-      plus-answer = refl;
-      plus-id = refl;
+      plus-sign = refl;
       empty-encoded = refl;
       empty-decoded = refl;
       erase-encoded = refl;

@@ -6,13 +6,12 @@ use Prim.Native.Nat.{ℕ}
 use lib.ListN.{length, replicate}
 use Rattle.record.specs.Record.{recordRoom}
 use Rattle.little_endian.specs.LittleEndian.{leBytes}
-use Rattle.segment_filename.specs.Format.{dot, suffix, nameOf, formatRefusal, formatLength, formattedOf}
-use Rattle.segment_filename.specs.Parse.{parseRefusal, parseId, parsedOf}
+use Rattle.lists.specs.Outcome.{refused, done}
+use Rattle.segment_filename.specs.Formatting.{dot, suffix, nameOf, formatOf}
+use Rattle.segment_filename.specs.Parsing.{parseOf}
 use Rattle.delta.specs.Table.{erased, reinstated, tableOf}
-use Rattle.delta.specs.Reading.{decodingNumber, decodedOf}
-use Rattle.delta.specs.declared.Decoding.the-variants.{Consumed}
-use Rattle.delta_encode.specs.Bytes.{encodedNumber, bytesOf, encodedOf, afterOf}
-use Rattle.delta_encode.specs.declared.Encoded.the-variants.{Written}
+use Rattle.delta.specs.Reading.{decodedOf}
+use Rattle.delta_encode.specs.Bytes.{bytesOf, encodedOf, afterOf}
 
 -- ---- words
 
@@ -64,28 +63,25 @@ pub record Specimens : Type 0 where
   pub no-payload : recordRoom 0 ≡ 4096
   -- 5. prefix rollback, id 1: rollback.0000000001.log (23 bytes)
   pub name : nameOf rollback 1 ≡ named (48 ∷ nine)
-  pub name-answer : formatRefusal (formattedOf rollback 23) ≡ 0
-  pub name-length : formatLength (formattedOf rollback 23) ≡ 23
+  pub name-length : formatOf rollback 23 ≡ done 23
   -- 6. digits 4294967295 read
-  pub largest-answer : parseRefusal (parsedOf rollback (named (near 53))) ≡ 0
-  pub largest-id : parseId (parsedOf rollback (named (near 53))) ≡ 4294967295
+  pub largest : parseOf rollback (named (near 53)) ≡ done 4294967295
   -- 7. 4294967296: 35
-  pub too-large : parseRefusal (parsedOf rollback (named (near 54))) ≡ 35
+  pub too-large : parseOf rollback (named (near 54)) ≡ refused 35
   -- 8. +000000001 reads as 1
-  pub plus-answer : parseRefusal (parsedOf rollback (named (43 ∷ nine))) ≡ 0
-  pub plus-id : parseId (parsedOf rollback (named (43 ∷ nine))) ≡ 1
+  pub plus-sign : parseOf rollback (named (43 ∷ nine)) ≡ done 1
   -- 9. empty delta: eight zero bytes
   pub empty-encoded : bytesOf (tableOf []) [] ≡ replicate 8 0
-  pub empty-decoded : decodedOf 256 (replicate 8 0) ≡ record { answer = Consumed 8; table = tableOf [] }
+  pub empty-decoded : decodedOf 256 (replicate 8 0) ≡ record { answer = done 8; table = tableOf [] }
   -- 10. one erase key: 40 bytes
   pub erase-encoded : bytesOf (tableOf (erased key ∷ [])) [] ≡ oneErased
   pub erase-length : length oneErased ≡ 40
-  pub erase-decoded : decodedOf 256 oneErased ≡ record { answer = Consumed 40; table = tableOf (erased key ∷ []) }
+  pub erase-decoded : decodedOf 256 oneErased ≡ record { answer = done 40; table = tableOf (erased key ∷ []) }
   -- 11. one reinstated key with 3 bytes: 47
-  pub reinstate-encoded : encodedOf 256 (tableOf (reinstated key 0 3 ∷ [])) abc (replicate 48 1) ≡ Written 47
+  pub reinstate-encoded : encodedOf 256 (tableOf (reinstated key 0 3 ∷ [])) abc (replicate 48 1) ≡ done 47
   pub reinstate-bytes : afterOf 256 (tableOf (reinstated key 0 3 ∷ [])) abc (replicate 48 1) ≡ oneReinstated ++ (1 ∷ [])
   pub reinstate-length : length oneReinstated ≡ 47
-  pub reinstate-decoded : decodedOf 256 oneReinstated ≡ record { answer = Consumed 47; table = tableOf (reinstated key 44 3 ∷ []) }
+  pub reinstate-decoded : decodedOf 256 oneReinstated ≡ record { answer = done 47; table = tableOf (reinstated key 44 3 ∷ []) }
   -- 12. the same key in both groups: 42
-  pub both-decoded : decodingNumber (decodedOf 256 bothGroups .answer) ≡ 42
-  pub both-encoded : encodedNumber (encodedOf 256 (tableOf (erased key ∷ reinstated key 0 3 ∷ [])) abc []) ≡ 42
+  pub both-decoded : decodedOf 256 bothGroups .answer ≡ refused 42
+  pub both-encoded : encodedOf 256 (tableOf (erased key ∷ reinstated key 0 3 ∷ [])) abc [] ≡ refused 42

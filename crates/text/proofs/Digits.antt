@@ -1,59 +1,48 @@
--- The cases of a number's digits, by the tests that lead to each; and that there are no more of them than places.
+-- The kit's digits of a number, as few as hold it, are those of `decimalOf`.
 -- Assumes nothing.
-use mathlib.Core.Path.{_≡_, refl, sym, ap, _∙_}
-use mathlib.Core.Bool.{Bool, true, false}
+use mathlib.Core.Path.{_≡_, sym, ap, subst, _∙_}
 use mathlib.Core.List.{List, [], _∷_, _++_}
-use Prim.Native.Nat.{ℕ, zero, suc, _+_, _-_, _/_, _%_, _≤_, _<_}
-use native.Mathlib.Nat.{mod-eq-of-lt}
+use Prim.Native.Nat.{ℕ, zero, suc, _+_, _-_, _*_, _/_, _%_, _^_, _≤_, _<_}
+use native.Mathlib.Nat.{div-lt-iff-lt-mul, le-div-iff-mul-le, mod-lt, mod-eq-of-lt, zero-lt-suc, pow-suc, pow-le-pow-right, one-le-pow}
 use native.Mathlib.Numerals.{sub-one}
 use native.Mathlib.Omega.{arith}
-use lib.ListN.{length, length-append}
 use lib.Dec.{ltb}
 use borrow.Author.Tests.{lt-ltb, le-ltb}
-use Rattle.lists.specs.Choice.{pick}
-use Rattle.lists.specs.Splice.{splice}
-use Rattle.lists.proofs.Splice.{splice-none, splice-join}
+use Rattle.lists.proofs.Cases.{by-order}
+use Rattle.io.specs.Digits.{digits, Fewest}
 use Rattle.text.specs.Decimal.{decimalIn}
 
--- one digit
-pub decimal-one : (n v : ℕ) → (n ≡ 0 → ⊥) → v < 10 → decimalIn n v ≡ (48 + v % 10) ∷ []
-unfolding decimalIn
-decimal-one zero v some h = absurd (some refl)
-decimal-one (suc n) v some h = simp (lt-ltb v 10 h, mod-eq-of-lt h)
-
--- the digits of the tenth part, and the last one
-pub decimal-more : (n v : ℕ) → (n ≡ 0 → ⊥) → 10 ≤ v → decimalIn n v ≡ decimalIn (n - 1) (v / 10) ++ ((48 + v % 10) ∷ [])
-unfolding decimalIn
-decimal-more zero v some h = absurd (some refl)
-decimal-more (suc n) v some h =
-    simp (le-ltb v 10 h) (ap (λ (k : ℕ). decimalIn k (v / 10) ++ ((48 + v % 10) ∷ [])) (sym (sub-one (suc n))))
-
--- there are no more digits than places
-pub decimal-places : (n v : ℕ) → length (decimalIn n v) ≤ n
-unfolding decimalIn
-decimal-places zero v = omega arith
-decimal-places (suc n) v = go (ltb v 10) (decimal-places n (v / 10))
-  where
-    go : (t : Bool) → length (decimalIn n (v / 10)) ≤ n → length (pick t ((48 + v) ∷ []) (decimalIn n (v / 10) ++ ((48 + v % 10) ∷ []))) ≤ suc n
-    go true h = omega arith
-    go false h = omega (arith, length-append (decimalIn n (v / 10)) ((48 + v % 10) ∷ []))
-
--- no digits are written where there are no places
-pub decimal-none : (n v : ℕ) (out : List ℕ) → n ≡ 0 → (0 ≡ length (decimalIn n v)) × (out ≡ splice 0 (decimalIn n v) out)
-unfolding decimalIn
-decimal-none zero v out h = (refl, sym (splice-none 0 out))
-decimal-none (suc n) v out h = absurd (omega arith)
-
--- one digit behind those of the tenth part
-pub decimal-step : (n v k : ℕ) (out mid : List ℕ) → (n ≡ 0 → ⊥) → 10 ≤ v → k ≡ length (decimalIn (n - 1) (v / 10))
-    → mid ≡ splice 0 (decimalIn (n - 1) (v / 10)) out
-    → (k + 1 ≡ length (decimalIn n v)) × (splice k ((48 + v % 10) ∷ []) mid ≡ splice 0 (decimalIn n v) out)
-decimal-step n v k out mid some h e m =
-    let front : List ℕ = decimalIn (n - 1) (v / 10) in
-    let last : List ℕ = (48 + v % 10) ∷ [] in
-    let is = decimal-more n v some h in
-    let place : k ≡ 0 + length front = omega arith in (
-      omega (arith, ap length is, length-append front last),
-      ap (λ (l : List ℕ). splice k last l) m ∙ ap (λ (j : ℕ). splice j last (splice 0 front out)) place ∙ splice-join 0 front last out
-          ∙ ap (λ (l : List ℕ). splice 0 l out) (sym is),
+-- a number of more than one digit: its tenth part has one fewer
+fewest-tenth : (k v : ℕ) → Fewest 10 1 v (suc (suc k)) → (10 ≤ v) × Fewest 10 1 (v / 10) (suc k)
+fewest-tenth k v f =
+    let high : v < 10 ^ suc k * 10 = subst (λ (n : ℕ). v < n) (pow-suc 10 (suc k)) (f .1) in
+    let low : 10 ^ k * 10 ≤ v = subst (λ (n : ℕ). n ≤ v) (ap (λ (n : ℕ). 10 ^ n) (sub-one (suc (suc k))) ∙ pow-suc 10 k) (f .2 (omega arith)) in
+    let some : 1 ≤ 10 ^ k = one-le-pow k 10 (zero-lt-suc 9) in (
+      omega arith,
+      (
+        omega arith,
+        div-lt-iff-lt-mul (zero-lt-suc 9) .1 high,
+        λ _. subst (λ (n : ℕ). 10 ^ n ≤ v / 10) (sym (sub-one (suc k))) (le-div-iff-mul-le (zero-lt-suc 9) .1 low),
+      ),
     )
+
+-- the fewest digits of a number are its decimal digits, where there are as many places
+pub fewest-decimal : (n k v : ℕ) → k ≤ n → Fewest 10 1 v k → digits 10 k v ≡ decimalIn n v
+unfolding decimalIn
+fewest-decimal n zero v h f = absurd (omega (arith, f .0))
+fewest-decimal zero (suc k) v h f = absurd (omega arith)
+fewest-decimal (suc n) (suc zero) v h f =
+    let small : v < 10 = f .1 in
+    simp (lt-ltb v 10 small, mod-eq-of-lt small)
+fewest-decimal (suc n) (suc (suc k)) v h f =
+    let tenth = fewest-tenth k v f in
+    simp (le-ltb v 10 (tenth .0), lt-ltb (v % 10) 10 (mod-lt v (zero-lt-suc 9)))
+    (ap (λ (l : List ℕ). l ++ ((48 + v % 10) ∷ [])) (fewest-decimal n (suc k) (v / 10) (omega arith) (tenth .1)))
+
+-- a number of 64 bits has at most 20 digits
+pub fewest-places : (k v : ℕ) → v < 18446744073709551616 → Fewest 10 1 v k → k ≤ 20
+fewest-places k v small f =
+    by-order k 20 (λ h. h)
+    (λ h.
+    let more : 10 ^ 20 ≤ 10 ^ (k - 1) = pow-le-pow-right (zero-lt-suc 9) {i = 20} {j = k - 1} (omega arith) in
+    absurd (omega (arith, f .2 (omega arith))))

@@ -1,2 +1,3 @@
 pub mod Digits
+pub mod Texts
 pub mod Unique

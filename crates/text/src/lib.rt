@@ -1,29 +1,45 @@
-// Numbers as decimal text, for the programs.
+// Text put together in a lent buffer, piece behind piece, for the programs. What does not fit is dropped, and the rest of the buffer stays.
 ghost use mathlib.Core.Path.{_≡_};
+ghost use mathlib.Core.List.{_++_};
+ghost use Prim.Native.Nat.{_+_, min};
 ghost use lib.ListN.{length};
-ghost use Rattle.lists.specs.Splice.{splice};
-ghost use Rattle.text.specs.Decimal.{decimalIn, decimalOf};
+ghost use Rattle.text.specs.Decimal.{decimalOf};
+ghost use Rattle.text.specs.Texts.{Put};
 
-// Writes at most `places` digits of v over the front of out; how many they are.
-fn digits_in(places: usize, v: u64, out: &mut [u8]) -> usize
-    ensures { λ r. ⌜ (r ≡ length (decimalIn places v)) × (now (out .exit) ≡ splice 0 (decimalIn places v) (now (out .entry))) ⌝ }
+// The end of n bytes from `at` on, in a buffer of `room` bytes.
+fn end_of(room: usize, at: usize, n: usize) -> usize
+    ensures { λ r. ⌜ r ≡ min room (at + n) ⌝ }
 {
-    if places == 0 {
-        return 0;
+    if room <= at {
+        return room;
     }
-    let digit = [b'0' + (v % 10) as u8];
-    if v < 10 {
-        lists::copy_into(out, 0, &digit);
-        return 1;
+    if room - at <= n {
+        return room;
     }
-    let n = digits_in(places - 1, v / 10, &mut *out);
-    lists::copy_into(out, n, &digit);
-    n + 1
+    at + n
 }
 
-// Writes v over the front of out, in decimal; how many digits it has. 20 bytes are always enough.
-pub fn decimal(v: u64, out: &mut [u8]) -> usize
-    ensures { λ r. ⌜ (r ≡ length (decimalOf v)) × (now (out .exit) ≡ splice 0 (decimalOf v) (now (out .entry))) ⌝ }
+// Writes the bytes from `at` on; where they end.
+pub fn put(out: &mut [u8], at: usize, bytes: &[u8]) -> usize
+    ensures { λ r. ⌜ Put at (now (bytes .entry)) (now (out .entry)) r (now (out .exit)) ⌝ }
 {
-    digits_in(20, v, out)
+    lists::copy_into(&mut *out, at, bytes);
+    end_of(out.len(), at, bytes.len())
+}
+
+// Writes a number in decimal from `at` on; where it ends.
+pub fn put_number(out: &mut [u8], at: usize, v: u64) -> usize
+    ensures { λ r. ⌜ Put at (decimalOf v) (now (out .entry)) r (now (out .exit)) ⌝ }
+{
+    let mut digits = [0u8; 20];
+    let n = io::decimal(v, &mut digits);
+    put(out, at, &digits[..n])
+}
+
+// Writes a word and a number from `at` on; where the number ends.
+pub fn put_named(out: &mut [u8], at: usize, word: &[u8], v: u64) -> usize
+    ensures { λ r. ⌜ Put at (now (word .entry) ++ decimalOf v) (now (out .entry)) r (now (out .exit)) ⌝ }
+{
+    let end = put(&mut *out, at, word);
+    put_number(out, end, v)
 }

@@ -1,13 +1,13 @@
 -- `delta_encode::any_outside` meets its contract. The loop's invariant: the rows from i on decide.
 -- The measure is the number of rows left. Assumes nothing.
-use Prim.Native.Nat.{_≤_, _<_, _+_, _-_}
-use mathlib.Core.Bool.{true, false}
+use Prim.Native.Nat.{_≤_, _-_}
+use mathlib.Core.Bool.{false}
 use mathlib.Core.List.{[]}
 use mathlib.Core.Logic.{⊎-elim}
-use mathlib.Core.Path.{_≡_, refl, ap, sym, _∙_}
+use mathlib.Core.Path.{_≡_, refl, sym, _∙_}
 use lib.ListN.{length, take, drop}
 use native.Mathlib.Omega.{arith}
-use Rattle.keys.specs.Sort.{any}
+use Rattle.lists.specs.Each.{any}
 use Rattle.lists.proofs.Arrays.{unmapped}
 use Rattle.delta.specs.Table.{erased, rowAt}
 use Rattle.delta_encode.specs.Bytes.{outside}
@@ -23,38 +23,31 @@ Inv-loop n t count limit i₀ i = (i ≤ count) × (length (t .rows) ≡ 256)
 abbrev μ-loop : tie.MeasureT-loop
 μ-loop n t count limit i₀ i = count - i
 
+-- the test of the loop, where a row is present
+abbrev looping : tie.Then1 Inv-loop μ-loop → tie.At-loop Inv-loop μ-loop
+looping c = c .before .before .before
+
+-- the row is present
+abbrev present : tie.Then3 Inv-loop μ-loop → tie.Then1 Inv-loop μ-loop
+present c = c .before .before .before .before .before
+
 loop-holds : tie.Need-loop-holds Inv-loop μ-loop
 loop-holds c = (omega arith, search (needs, unmapped), refl)
 
-mul-row : tie.Need-mul-row Inv-loop μ-loop
-mul-row c = search needs
-
-element-copy-out-row : tie.Need-element-copy-out-row Inv-loop μ-loop
-element-copy-out-row c = search needs
-
 returns : tie.Need-returns Inv-loop μ-loop
 returns c =
-    let b = c .before .before .before .before .before in
+    let b = looping (c .before .before) in
     let a = b .before .args in
     let y = outside-yes (a .n) (rowAt (a .t1) (b .loop .i)) (c .before .before .if1 .taken) (omega (arith, c .if2 .taken)) in
     sym (b .loop .inv .2 ∙ any-yes (outside (a .n)) (a .t1 .rows) (a .t1 .count) (b .loop .i) (omega arith) (erased []) (omega arith) y)
 
-cast-if3 : tie.Need-cast-if3 Inv-loop μ-loop
-cast-if3 c = search needs
-
 returns-2 : tie.Need-returns-2 Inv-loop μ-loop
 returns-2 c =
-    let b = c .before .before .before .before .before .before .before .before in
+    let b = looping (present c) in
     let a = b .before .args in
-    let y = outside-yes (a .n) (rowAt (a .t1) (b .loop .i)) (c .before .before .before .before .before .if1 .taken)
+    let y = outside-yes (a .n) (rowAt (a .t1) (b .loop .i)) (present c .if1 .taken)
     (omega (arith, c .if3 .taken)) in
     sym (b .loop .inv .2 ∙ any-yes (outside (a .n)) (a .t1 .rows) (a .t1 .count) (b .loop .i) (omega arith) (erased []) (omega arith) y)
-
-add-i : tie.Need-add-i Inv-loop μ-loop
-add-i c = search needs
-
-loop-less : tie.Need-loop-less Inv-loop μ-loop
-loop-less c = search needs
 
 loop-again : tie.Need-loop-again Inv-loop μ-loop
 loop-again c =
@@ -83,12 +76,12 @@ any-outside-spec =
     Inv-loop
     μ-loop
     loop-holds
-    mul-row
-    element-copy-out-row
+    (λ c. search needs)
+    (λ c. search needs)
     returns
-    cast-if3
+    (λ c. search needs)
     returns-2
-    add-i
-    loop-less
+    (λ c. search needs)
+    (λ c. search needs)
     loop-again
     returns-3)

@@ -15,15 +15,47 @@ use borrow.Author.Needs.{needs}
 use Rattle.delta_encode.proofs.encode.Statement.{statement}
 use Rattle.delta_encode.proofs.encode.Tie as tie
 
+-- the call, from the first test
+abbrev first : tie.Then1 → tie.Start
+first c = c .before .before .before .before
+
+-- the call, where the values were looked at
+abbrev called : tie.After-any-outside → tie.Start
+called c = c .before .before .before .before .before
+
+-- the values were looked at
+abbrev asked : tie.After-arrange → tie.After-any-outside
+asked c = c .before .before
+
+-- the rows were put in order
+abbrev arranged : tie.After-measure → tie.After-arrange
+arranged c = c .before .before .before
+
+-- the rows were measured
+abbrev measured : tie.After-write-u32 → tie.After-measure
+measured c = c .before .before .before .before
+
+-- the erase count was written
+abbrev counted : tie.After-put-erases → tie.After-write-u32
+counted c = c .before .before .before .before
+
+-- the erase group was written
+abbrev erased : tie.After-write-u322 → tie.After-put-erases
+erased c = c .before .before .before .before
+
+-- the reinstate count was written
+abbrev counted-too : tie.After-put-reinstates → tie.After-write-u322
+counted-too c = c .before .before .before .before
+
 -- what holds once the rows are measured
 at-measure : (c : tie.After-measure)
-    → Known (c .before .before .before .before .before .before .before .before .before .before .args .values .now)
-    (c .before .before .before .before .before .before .before .before .before .before .args .t)
+    → Known (called (asked (arranged c)) .args .values .now)
+    (called (asked (arranged c)) .args .t)
     (c .before .before .before .arrange .result .table) (c .measure .result)
 at-measure c =
-    let r = c .before .before .before in
-    let o = r .before .before in
-    let a = o .before .before .before .before .before .args in
+    let r = arranged c in
+    let o = asked r in
+    let a = called o .args in
     known (a .t) (r .arrange .result) (omega arith) (r .arrange .ensures) (c .before .before .if3 .left) (a .values .now)
     (c .measure .result)
     (sym (o .any-outside .ensures) ∙ r .before .if2 .left) (c .measure .ensures)
@@ -31,86 +63,77 @@ at-measure c =
 -- and that the rows in order are few enough
 at-few : (c : tie.After-measure) → c .before .before .before .arrange .result .table .count ≤ 256
 at-few c =
-    let r = c .before .before .before in
-    arranged-few (r .before .before .before .before .before .before .before .args .t) (r .arrange .result) (omega arith)
+    let r = arranged c in
+    arranged-few (called (asked r) .args .t) (r .arrange .result) (omega arith)
     (r .arrange .ensures)
     (c .before .before .if3 .left)
 
 returns : tie.Need-returns
 returns c =
-    let a = c .before .before .before .before .args in
+    let a = first c .args in
     ends-many 256 (a .t) (a .values .now) (a .out .now) (omega arith)
-
-any-outside-requires : tie.Need-any-outside-requires
-any-outside-requires c κs = search needs
 
 returns-2 : tie.Need-returns-2
 returns-2 c =
     let o = c .before in
-    let a = o .before .before .before .before .before .args in
+    let a = called o .args in
     ends-outside 256 (a .t) (a .values .now) (a .out .now) (omega arith) (sym (o .any-outside .ensures) ∙ c .if2 .taken)
 
-arrange-requires : tie.Need-arrange-requires
-arrange-requires c κs = tt
+any-outside-requires : tie.Need-any-outside-requires
+any-outside-requires c κs = search needs
 
 returns-3 : tie.Need-returns-3
 returns-3 c =
     let r = c .before in
-    let o = r .before .before in
-    let a = o .before .before .before .before .before .args in
+    let o = asked r in
+    let a = called o .args in
     ends-twins 256 (a .t) (a .values .now) (a .out .now) (omega arith) (sym (o .any-outside .ensures) ∙ r .before .if2 .left)
     (arranged-clash (rowsOf (a .t)) (r .arrange .result) (r .arrange .ensures) ∙ c .if3 .taken)
 
 measure-requires : tie.Need-measure-requires
 measure-requires c κs =
     let r = c .before .before in
-    let a = r .before .before .before .before .before .before .before .args in
+    let a = called (asked r) .args in
     arranged-few (a .t) (r .arrange .result) (omega arith) (r .arrange .ensures) (c .before .if3 .left)
 
 returns-4 : tie.Need-returns-4
 returns-4 c =
     let m = c .before .before in
-    let r = m .before .before .before in
-    let o = r .before .before in
-    let a = o .before .before .before .before .before .args in
+    let r = arranged m in
+    let o = asked r in
+    let a = called o .args in
     let k = at-measure m in
     let n = k .size in
     ends-short 256 (a .t) (a .values .now) (a .out .now) (omega arith) (sym (o .any-outside .ensures) ∙ r .before .if2 .left)
     (arranged-clash (rowsOf (a .t)) (r .arrange .result) (r .arrange .ensures) ∙ m .before .before .if3 .left) (omega arith)
 
-write-u32-requires : tie.Need-write-u32-requires
-write-u32-requires c κs = tt
-
 put-erases-requires : tie.Need-put-erases-requires
 put-erases-requires c κs =
     let w = c .before .before .before in
-    let m = w .before .before .before .before in
+    let m = measured w in
     let k = at-measure m in
     let n = k .size in
     let p = k .parts in
     let l = w .write-u32 .kept .0 in
     (at-few m, omega arith)
 
-write-u32-requires-2 : tie.Need-write-u32-requires-2
-write-u32-requires-2 c κs = tt
-
 add-put-reinstates : tie.Need-add-put-reinstates
 add-put-reinstates c =
-    let e = c .before .before .before .before .before .before .before in
-    let m = e .before .before .before .before .before .before .before .before in
+    let e = erased (c .before .before .before) in
+    let m = measured (counted e) in
     let k = at-measure m in
     let n = k .size in
     let p = k .parts in
     let q = e .put-erases .ensures .0 in
-    let l = m .before .before .before .before .before .before .before .before .before .before .good in
-    omega (arith, e .before .before .before .before .before .before .if4 .left)
+    let l = called (asked (arranged m)) .good in
+    omega (arith, counted e .before .before .if4 .left)
 
 put-reinstates-requires : tie.Need-put-reinstates-requires
 put-reinstates-requires c κs =
     let z = c .before .before .before in
-    let e = z .before .before .before .before in
-    let w = e .before .before .before .before in
-    let m = w .before .before .before .before in
+    let e = erased z in
+    let w = counted e in
+    let m = measured w in
     let k = at-measure m in
     let n = k .size in
     let p = k .parts in
@@ -121,19 +144,16 @@ put-reinstates-requires c κs =
     let g = w .before .before .if4 .left in
     (at-few m, (k .none, omega arith))
 
-same-length : tie.Need-same-length
-same-length c = search needs
-
 returns-5 : tie.Need-returns-5
 returns-5 c =
     let y = c .before .before in
-    let z = y .before .before .before .before in
-    let e = z .before .before .before .before in
-    let w = e .before .before .before .before in
-    let m = w .before .before .before .before in
-    let r = m .before .before .before in
-    let o = r .before .before in
-    let a = o .before .before .before .before .before .args in
+    let z = counted-too y in
+    let e = erased z in
+    let w = counted e in
+    let m = measured w in
+    let r = arranged m in
+    let o = asked r in
+    let a = called o .args in
     let ys = rowsOf (r .arrange .result .table) in
     let k = at-measure m in
     let n = k .size in
@@ -158,14 +178,14 @@ encode-spec =
     returns
     any-outside-requires
     returns-2
-    arrange-requires
+    (λ c κs. tt)
     returns-3
     measure-requires
     returns-4
-    write-u32-requires
+    (λ c κs. tt)
     put-erases-requires
-    write-u32-requires-2
+    (λ c κs. tt)
     add-put-reinstates
     put-reinstates-requires
-    same-length
+    (λ c. search needs)
     returns-5)

@@ -2,13 +2,14 @@
 -- The measure is i. Assumes nothing.
 use Prim.Native.Nat.{_≤_, _+_, _-_, _*_}
 use mathlib.Core.List.{[]}
-use mathlib.Core.Path.{_≡_, refl, ap}
+use mathlib.Core.Path.{_≡_}
 use lib.ListN.{length, take, drop}
 use native.Mathlib.Nat.{le-refl}
 use Rattle.lists.proofs.Arrays.{unmapped}
 use Rattle.delta.specs.Table.{erased, rowAt}
+use Rattle.lists.proofs.Bounds.{left-falls, left-within, none-left, some-left}
 use Rattle.delta_encode.specs.Bytes.{erases, reinstates, sizeOf, Sized}
-use Rattle.delta_encode.proofs.Bounds.{rows-within, widened, some-left, none-left, left-falls, left-within, last-below, last-fits}
+use Rattle.delta_encode.proofs.Bounds.{rows-within, widened, last-below, last-fits}
 use Rattle.delta_encode.proofs.Bounds.{count-start, erases-fit, reinstates-fit, erase-counted, reinstate-counted, none-more}
 use Rattle.delta_encode.proofs.Bounds.{one-more}
 use Rattle.delta_encode.proofs.Bounds.{erase-size, reinstate-size, length-fits, erase-fits, erase-bound, reinstate-fits}
@@ -26,6 +27,10 @@ Inv-loop t e₀ k₀ size₀ i₀ e k size i =
 abbrev μ-loop : tie.MeasureT-loop
 μ-loop t erases₀ reinstates₀ size₀ i₀ erases reinstates size i = i
 
+-- the turn of the loop, where a key was sized
+abbrev turn : tie.After-key-size Inv-loop μ-loop → tie.In-loop Inv-loop μ-loop
+turn c = c .before .before .before
+
 loop-holds : tie.Need-loop-holds Inv-loop μ-loop
 loop-holds c =
     let a = c .args .t1 in
@@ -41,17 +46,14 @@ mul-row c = last-fits (c .before .loop .inv .0) (c .before .before .pre)
 element-copy-out-row : tie.Need-element-copy-out-row Inv-loop μ-loop
 element-copy-out-row c = last-below (c .before .loop .inv .0) (c .before .before .pre)
 
-key-size-requires : tie.Need-key-size-requires Inv-loop μ-loop
-key-size-requires c κs = tt
-
 add-size : tie.Need-add-size Inv-loop μ-loop
 add-size c =
-    let b = c .before .before .before .before in
+    let b = turn c .before in
     erase-fits (b .loop .size) (b .loop .i) _ (b .loop .inv .3) (c .key-size .ensures .0) (b .before .pre)
 
 add-reinstates : tie.Need-add-reinstates Inv-loop μ-loop
 add-reinstates c =
-    let b = c .before .before .before .before .before in
+    let b = turn (c .before) .before in
     reinstates-fit (b .loop .erases) (b .loop .reinstates) (b .loop .i) (b .loop .inv .2) (b .before .pre)
 
 cast-size : tie.Need-cast-size Inv-loop μ-loop
@@ -62,17 +64,17 @@ add-size-2 c = length-fits (c .struct-known .given .1 .1 .1 .0)
 
 add-size-3 : tie.Need-add-size-3 Inv-loop μ-loop
 add-size-3 c =
-    let b = c .before .before .before .before .before .before in
+    let b = turn (c .before .before) .before in
     reinstate-fits (b .loop .size) (b .loop .i) _ (b .loop .inv .3) (c .before .before .key-size .ensures .0)
     (c .struct-known .given .1 .1 .1 .0)
     (b .before .pre)
 
 loop-less : tie.Need-loop-less Inv-loop μ-loop
-loop-less c = left-falls (c .before .before .before .before .before .loop-test .taken)
+loop-less c = left-falls (turn (c .before .before) .loop-test .taken)
 
 loop-again : tie.Need-loop-again Inv-loop μ-loop
 loop-again c =
-    let i = c .before .before .before .before .before in
+    let i = turn (c .before .before) in
     let b = i .before in
     let a = b .before .args .t1 in
     let row = rowAt a (b .loop .i - 1) in
@@ -97,15 +99,15 @@ loop-again c =
 
 add-erases : tie.Need-add-erases Inv-loop μ-loop
 add-erases c =
-    let b = c .before .before .before .before .before in
+    let b = turn (c .before) .before in
     erases-fit (b .loop .erases) (b .loop .reinstates) (b .loop .i) (b .loop .inv .2) (b .before .pre)
 
 loop-less-2 : tie.Need-loop-less-2 Inv-loop μ-loop
-loop-less-2 c = left-falls (c .before .before .before .before .loop-test .taken)
+loop-less-2 c = left-falls (turn (c .before) .loop-test .taken)
 
 loop-again-2 : tie.Need-loop-again-2 Inv-loop μ-loop
 loop-again-2 c =
-    let i = c .before .before .before .before in
+    let i = turn (c .before) in
     let b = i .before in
     let a = b .before .args .t1 in
     let row = rowAt a (b .loop .i - 1) in
@@ -142,7 +144,7 @@ measure-spec =
     sub-i
     mul-row
     element-copy-out-row
-    key-size-requires
+    (λ c κs. tt)
     add-size
     add-reinstates
     cast-size

@@ -2,13 +2,14 @@
 -- The measure is the number of rows left. Assumes nothing.
 use Prim.Native.Nat.{_≤_, _<_, _+_, _-_, _^_}
 use mathlib.Core.List.{[]}
-use mathlib.Core.Path.{_≡_, refl, ap, subst}
+use mathlib.Core.Path.{_≡_, refl, subst}
 use lib.ListN.{length, take, drop}
 use native.Mathlib.Omega.{arith}
 use Rattle.lists.proofs.Arrays.{unmapped}
 use Rattle.delta.specs.Table.{erased, rowsOf, rowAt}
+use Rattle.lists.proofs.Bounds.{index-below, index-falls, index-fits, index-up}
 use Rattle.delta_encode.specs.Bytes.{concat, eraseBytes}
-use Rattle.delta_encode.proofs.Bounds.{row-below, row-fits, index-fits, index-up, index-falls, rows-within, key-end, key-fits}
+use Rattle.delta_encode.proofs.Bounds.{row-fits, rows-within, key-end, key-fits}
 use Rattle.delta_encode.proofs.Writes.{Writing, writing-start, writing-step, writing-room, writing-end, concat-end, erase-absent}
 use Rattle.delta_encode.proofs.Writes.{erase-present}
 use borrow.Author.Needs.{needs, zero≤}
@@ -22,6 +23,18 @@ Inv-loop out₀ at t count p₀ i₀ out p i =
 
 abbrev μ-loop : tie.MeasureT-loop
 μ-loop out₀ at t count p₀ i₀ out p i = count - i
+
+-- the call, with its arguments
+abbrev called : tie.In-loop Inv-loop μ-loop → tie.Start Inv-loop μ-loop
+called c = c .before .before .before
+
+-- the turn of the loop, where a key was sized
+abbrev turn : tie.After-key-size Inv-loop μ-loop → tie.In-loop Inv-loop μ-loop
+turn c = c .before .before .before .before
+
+-- the key was sized
+abbrev sized : tie.After-slice-known2 Inv-loop μ-loop → tie.After-key-size Inv-loop μ-loop
+sized c = c .before .before .before .before .before
 
 -- an array that came by value has its length
 long-at : (st : tie.Start Inv-loop μ-loop) → length (st .args .t1 .rows) ≡ 256
@@ -42,10 +55,10 @@ mul-row : tie.Need-mul-row Inv-loop μ-loop
 mul-row c = row-fits (c .loop-test .taken) (c .before .before .before .pre .0)
 
 element-copy-out-row : tie.Need-element-copy-out-row Inv-loop μ-loop
-element-copy-out-row c = row-below (c .loop-test .taken) (c .before .before .before .pre .0)
+element-copy-out-row c = index-below (c .loop-test .taken) (c .before .before .before .pre .0)
 
 add-i : tie.Need-add-i Inv-loop μ-loop
-add-i c = index-fits (c .before .before .loop-test .taken) (c .before .before .before .before .before .pre .0)
+add-i c = index-fits (c .before .before .loop-test .taken) (called (c .before .before) .pre .0)
 
 loop-less : tie.Need-loop-less Inv-loop μ-loop
 loop-less c = index-falls (c .before .before .loop-test .taken)
@@ -62,19 +75,10 @@ loop-again c =
           (b .loop .inv .2),
     )
 
-key-size-requires : tie.Need-key-size-requires Inv-loop μ-loop
-key-size-requires c κs = tt
-
-slice-aggregate-copy-into : tie.Need-slice-aggregate-copy-into Inv-loop μ-loop
-slice-aggregate-copy-into c = search needs
-
-copy-into-requires : tie.Need-copy-into-requires Inv-loop μ-loop
-copy-into-requires c κs = tt
-
 add-p : tie.Need-add-p Inv-loop μ-loop
 add-p c =
-    let n = c .before .before .before .before .before in
-    let i = n .before .before .before .before in
+    let n = sized c in
+    let i = turn n in
     let b = i .before in
     let a = b .before .before .args in
     let h : length (rowAt (a .t1) (b .loop .i) .key) ≡ 32 = n .key-size .ensures .1 in
@@ -87,17 +91,17 @@ add-p c =
 
 add-i-2 : tie.Need-add-i-2 Inv-loop μ-loop
 add-i-2 c =
-    index-fits (c .before .before .before .before .before .before .before .before .before .loop-test .taken)
-    (c .before .before .before .before .before .before .before .before .before .before .before .before .pre .0)
+    index-fits (turn (sized c) .loop-test .taken)
+    (called (turn (sized c)) .pre .0)
 
 loop-less-2 : tie.Need-loop-less-2 Inv-loop μ-loop
-loop-less-2 c = index-falls (c .before .before .before .before .before .before .before .before .before .loop-test .taken)
+loop-less-2 c = index-falls (turn (sized c) .loop-test .taken)
 
 loop-again-2 : tie.Need-loop-again-2 Inv-loop μ-loop
 loop-again-2 c =
     let o = c .before .before in
     let n = o .before .before .before in
-    let i = n .before .before .before .before in
+    let i = turn n in
     let b = i .before in
     let a = b .before .before .args in
     let h : length (rowAt (a .t1) (b .loop .i) .key) ≡ 32 = n .key-size .ensures .1 in
@@ -135,9 +139,9 @@ put-erases-spec =
     add-i
     loop-less
     loop-again
-    key-size-requires
-    slice-aggregate-copy-into
-    copy-into-requires
+    (λ c κs. tt)
+    (λ c. search needs)
+    (λ c κs. tt)
     add-p
     add-i-2
     loop-less-2

@@ -3,14 +3,15 @@
 use Prim.Native.Nat.{_≤_, _+_, _-_}
 use mathlib.Core.Bool.{false}
 use mathlib.Core.List.{[], _++_}
-use mathlib.Core.Path.{_≡_, refl, ap, subst}
+use mathlib.Core.Path.{_≡_, refl, subst}
 use lib.ListN.{length, take, drop}
 use Rattle.little_endian.specs.LittleEndian.{leBytes}
-use Rattle.keys.specs.Sort.{any}
+use Rattle.lists.specs.Each.{any}
 use Rattle.lists.proofs.Arrays.{unmapped}
 use Rattle.delta.specs.Table.{erased, rowsOf, rowAt}
+use Rattle.lists.proofs.Bounds.{index-below, index-falls, index-fits, index-up}
 use Rattle.delta_encode.specs.Bytes.{concat, reinstateBytes, valueOf, outside}
-use Rattle.delta_encode.proofs.Bounds.{row-below, row-fits, index-fits, index-up, index-falls, rows-within, piece-room, piece-end}
+use Rattle.delta_encode.proofs.Bounds.{row-fits, rows-within, piece-room, piece-end}
 use Rattle.delta_encode.proofs.Writes.{Writing, writing-start, writing-step, writing-room, writing-end, concat-end}
 use Rattle.delta_encode.proofs.Writes.{reinstate-present, reinstate-absent, inside, present-length}
 use borrow.Author.Needs.{needs, zero≤}
@@ -26,6 +27,18 @@ Inv-loop values out₀ at t count p₀ i₀ out p i =
 abbrev μ-loop : tie.MeasureT-loop
 μ-loop values out₀ at t count p₀ i₀ out p i = count - i
 
+-- the call, with its arguments
+abbrev called : tie.In-loop Inv-loop μ-loop → tie.Start Inv-loop μ-loop
+called c = c .before .before .before .before
+
+-- the turn of the loop, where a key was sized
+abbrev turn : tie.After-key-size Inv-loop μ-loop → tie.In-loop Inv-loop μ-loop
+turn c = c .before .before .before .before
+
+-- the key was sized
+abbrev sized : tie.After-slice-known2 Inv-loop μ-loop → tie.After-key-size Inv-loop μ-loop
+sized c = c .before .before .before .before
+
 -- an array that came by value has its length
 long-at : (st : tie.Start Inv-loop μ-loop) → length (st .args .t1 .rows) ≡ 256
 long-at st = search (needs, unmapped)
@@ -38,17 +51,14 @@ loop-holds : tie.Need-loop-holds Inv-loop μ-loop
 loop-holds c = (zero≤, long-at (c .before .before), c .before .before .pre .1 .0, writing-start _ _ _ _ refl)
 
 mul-row : tie.Need-mul-row Inv-loop μ-loop
-mul-row c = row-fits (c .loop-test .taken) (c .before .before .before .before .pre .0)
+mul-row c = row-fits (c .loop-test .taken) (called c .pre .0)
 
 element-copy-out-row : tie.Need-element-copy-out-row Inv-loop μ-loop
-element-copy-out-row c = row-below (c .loop-test .taken) (c .before .before .before .before .pre .0)
-
-key-size-requires : tie.Need-key-size-requires Inv-loop μ-loop
-key-size-requires c κs = tt
+element-copy-out-row c = index-below (c .loop-test .taken) (called c .pre .0)
 
 put-row-requires : tie.Need-put-row-requires Inv-loop μ-loop
 put-row-requires c κs =
-    let i = c .before .before .before .before .before in
+    let i = turn (c .before) in
     let b = i .before in
     let a = b .before .before .before .args in
     let row = rowAt (a .t1) (b .loop .i) in
@@ -65,17 +75,17 @@ put-row-requires c κs =
 
 add-i : tie.Need-add-i Inv-loop μ-loop
 add-i c =
-    index-fits (c .before .before .before .before .before .before .before .before .loop-test .taken)
-    (c .before .before .before .before .before .before .before .before .before .before .before .before .pre .0)
+    index-fits (turn (sized c) .loop-test .taken)
+    (called (turn (sized c)) .pre .0)
 
 loop-less : tie.Need-loop-less Inv-loop μ-loop
-loop-less c = index-falls (c .before .before .before .before .before .before .before .before .loop-test .taken)
+loop-less c = index-falls (turn (sized c) .loop-test .taken)
 
 loop-again : tie.Need-loop-again Inv-loop μ-loop
 loop-again c =
     let w = c .before .before in
     let n = w .before .before in
-    let i = n .before .before .before .before in
+    let i = turn n in
     let b = i .before in
     let a = b .before .before .before .args in
     let row = rowAt (a .t1) (b .loop .i) in
@@ -96,7 +106,7 @@ loop-again c =
     )
 
 add-i-2 : tie.Need-add-i-2 Inv-loop μ-loop
-add-i-2 c = index-fits (c .before .before .loop-test .taken) (c .before .before .before .before .before .before .pre .0)
+add-i-2 c = index-fits (c .before .before .loop-test .taken) (called (c .before .before) .pre .0)
 
 loop-less-2 : tie.Need-loop-less-2 Inv-loop μ-loop
 loop-less-2 c = index-falls (c .before .before .loop-test .taken)
@@ -136,7 +146,7 @@ put-reinstates-spec =
     loop-holds
     mul-row
     element-copy-out-row
-    key-size-requires
+    (λ c κs. tt)
     put-row-requires
     add-i
     loop-less

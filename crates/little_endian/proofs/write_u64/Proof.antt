@@ -6,24 +6,17 @@ use borrow.Author.Needs.{needs}
 use Rattle.little_endian.proofs.write_u64.Statement.{statement}
 use Rattle.little_endian.proofs.write_u64.Tie as tie
 
-bytes-u64-requires : tie.Need-bytes-u64-requires
-bytes-u64-requires c κs = search needs
-
-slice-aggregate-copy-into : tie.Need-slice-aggregate-copy-into
-slice-aggregate-copy-into c = search needs
-
-copy-into-requires : tie.Need-copy-into-requires
-copy-into-requires c κs = search needs
-
-same-length : tie.Need-same-length
-same-length c = search needs
+-- where the bytes were worked out
+abbrev bytes-of : tie.After-copy-into → tie.After-bytes-u64
+bytes-of c = c .before .before .before
 
 returns : tie.Need-returns
 returns c =
-    let a = c .before .before .before .before .before .before .before .args in
-    c .before .before .copy-into .ensures ∙ ap (λ b. splice (a .at) b (a .out .now)) (c .before .before .before .before .before .bytes-u64 .ensures)
+    let copied = c .before .before in
+    let a = bytes-of copied .before .before .args in
+    copied .copy-into .ensures ∙ ap (λ b. splice (a .at) b (a .out .now)) (bytes-of copied .bytes-u64 .ensures)
 
 pub write-u64-spec : {M : Type 1} → statement M
 write-u64-spec =
     tie.close
-    (tie.spec bytes-u64-requires slice-aggregate-copy-into copy-into-requires same-length returns)
+    (tie.spec (λ c κs. search needs) (λ c. search needs) (λ c κs. search needs) (λ c. search needs) returns)

@@ -7,14 +7,8 @@ use borrow.Author.Needs.{needs}
 use Rattle.page.proofs.reader_next_pos.Statement.{statement}
 use Rattle.page.proofs.reader_next_pos.Tie as tie
 
-add-result : tie.Need-add-result
-add-result c = search needs
-
-mul-result : tie.Need-mul-result
-mul-result c = search needs
-
 returns : tie.Need-returns
 returns c = sym (pad-rounded 4096 (c .args .end) (lit< tt))
 
 pub reader-next-pos-spec : {M : Type 1} → statement M
-reader-next-pos-spec = tie.close (tie.spec add-result mul-result returns)
+reader-next-pos-spec = tie.close (tie.spec (λ c. search needs) (λ c. search needs) (λ c. search needs) returns)

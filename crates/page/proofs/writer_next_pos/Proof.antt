@@ -10,14 +10,8 @@ use Rattle.page.proofs.writer_next_pos.Tie as tie
 returns : tie.Need-returns
 returns c = sym (pad-whole 4096 (c .before .args .end) (lit< tt) (c .if1 .taken))
 
-add-result : tie.Need-add-result
-add-result c = search needs
-
-mul-result : tie.Need-mul-result
-mul-result c = search needs
-
 returns-2 : tie.Need-returns-2
 returns-2 c = sym (pad-above 4096 (c .before .args .end) (lit< tt) (c .if1 .left))
 
 pub writer-next-pos-spec : {M : Type 1} → statement M
-writer-next-pos-spec = tie.close (tie.spec returns add-result mul-result returns-2)
+writer-next-pos-spec = tie.close (tie.spec returns (λ c. search needs) (λ c. search needs) returns-2)

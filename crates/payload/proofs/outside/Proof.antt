@@ -7,7 +7,7 @@ use native.Mathlib.Omega.{arith}
 use lib.Dec.{ltb}
 use borrow.Author.Tests.{lt-ltb, le-ltb, le-leb, lt-leb}
 use Rattle.lists.proofs.Cases.{by-order}
-use Rattle.payload.specs.Payload.{outsideOf}
+use Rattle.payload.specs.Row.{outsideOf}
 use Rattle.payload.proofs.outside.Statement.{statement}
 use Rattle.payload.proofs.outside.Tie as tie
 
@@ -26,17 +26,15 @@ returns c = simp (le-leb _ _ (c .if1 .taken))
 
 returns-2 : tie.Need-returns-2
 unfolding outsideOf
-returns-2 c = simp (
-  lt-leb _ _ (c .before .before .if1 .left),
-  above-c _ _ (c .before .before .before .before .args .length)
-      (c .if2 .taken),
-)
+returns-2 c =
+    let else-1 = c .before .before in
+    simp (lt-leb _ _ (else-1 .if1 .left), above-c _ _ (else-1 .before .before .args .length) (c .if2 .taken))
 
 returns-3 : tie.Need-returns-3
 unfolding outsideOf
 returns-3 c =
-    simp (lt-leb _ _ (c .before .before .before .if1 .left))
-    (sum-above _ _ (c .before .before .before .before .before .args .length) (c .before .if2 .left))
+    let else-1 = c .before .before .before in
+    simp (lt-leb _ _ (else-1 .if1 .left)) (sum-above _ _ (else-1 .before .before .args .length) (c .before .if2 .left))
 
 pub outside-spec : {M : Type 1} → statement M
 outside-spec = tie.close (tie.spec returns returns-2 returns-3)

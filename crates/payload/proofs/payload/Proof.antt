@@ -1,45 +1,34 @@
 -- `payload::payload` meets its contract: a good row's place is handed back, and of another row an empty part.
 -- Assumes nothing.
-use mathlib.Core.Path.{sym, _∙_}
+use mathlib.Core.Path.{sym, ap, _∙_}
 use borrow.Author.Needs.{needs}
-use Rattle.payload.proofs.Row.{row-good, payload-good, payload-none}
+use Rattle.payload.specs.Row.{rowNumber}
+use Rattle.payload.proofs.Row.{row-refused, row-good, payload-good, payload-none}
 use Rattle.payload.proofs.payload.Statement.{statement}
 use Rattle.payload.proofs.payload.Tie as tie
 
-row-question-requires : tie.Need-row-question-requires
-row-question-requires c κs = tt
-
-enum-told : tie.Need-enum-told
-enum-told c = search needs
-
-sub-result : tie.Need-sub-result
-sub-result c = search needs
-
-part-result-start : tie.Need-part-result-start
-part-result-start c = search needs
-
-part-result-end : tie.Need-part-result-end
-part-result-end c = search needs
-
 returns : tie.Need-returns
-returns c = sym (payload-none _ _ _ _ _ _ (c .before .before .row-question .ensures) (c .before .match .keys2))
+returns c =
+    let q = c .before .before .row-question in
+    sym (payload-none _ _ _ _ _ (λ h. row-refused (q .result) (c .before .match .keys2) (q .ensures ∙ h)))
 
 place-requires : tie.Need-place-requires
-place-requires c κs = row-good _ _ _ _ _ (sym (c .before .before .row-question .ensures) ∙ c .enum-told .given .1)
+place-requires c κs = row-good _ _ _ _ _ (sym (c .before .before .row-question .ensures) ∙ ap rowNumber (c .enum-told .given .1))
 
 returns-2 : tie.Need-returns-2
 returns-2 c =
-    c .place .ensures ∙ sym (payload-good _ _ _ _ _ _ (c .before .before .before .row-question .ensures) (c .before .enum-told .given .1))
+    let good = sym (c .before .before .before .row-question .ensures) ∙ ap rowNumber (c .before .enum-told .given .1) in
+    c .place .ensures ∙ sym (payload-good _ _ _ _ _ good)
 
 pub payload-spec : {M : Type 1} → statement M
 payload-spec =
     tie.close
     (tie.spec
-    row-question-requires
-    enum-told
-    sub-result
-    part-result-start
-    part-result-end
+    (λ c κs. tt)
+    (λ c. search needs)
+    (λ c. search needs)
+    (λ c. search needs)
+    (λ c. search needs)
     returns
     place-requires
     returns-2)

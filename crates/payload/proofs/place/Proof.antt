@@ -8,24 +8,6 @@ use borrow.Author.Needs.{needs}
 use Rattle.payload.proofs.place.Statement.{statement}
 use Rattle.payload.proofs.place.Tie as tie
 
-mul-from : tie.Need-mul-from
-mul-from c = search needs
-
-add-from : tie.Need-add-from
-add-from c = search needs
-
-add-to : tie.Need-add-to
-add-to c = search needs
-
-sub-result : tie.Need-sub-result
-sub-result c = search needs
-
-part-result-start : tie.Need-part-result-start
-part-result-start c = search needs
-
-part-result-end : tie.Need-part-result-end
-part-result-end c = search needs
-
 returns : tie.Need-returns
 returns c =
     let a = c .before .before .args in
@@ -33,4 +15,13 @@ returns c =
     let n : from + a .length - from ≡ a .length = omega arith in ap (λ k. take k (drop from (a .area .now))) n
 
 pub place-spec : {M : Type 1} → statement M
-place-spec = tie.close (tie.spec mul-from add-from add-to sub-result part-result-start part-result-end returns)
+place-spec =
+    tie.close
+    (tie.spec
+    (λ c. search needs)
+    (λ c. search needs)
+    (λ c. search needs)
+    (λ c. search needs)
+    (λ c. search needs)
+    (λ c. search needs)
+    returns)

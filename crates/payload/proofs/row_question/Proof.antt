@@ -6,14 +6,8 @@ use Rattle.payload.proofs.Row.{row-unshaped, row-outside, row-is-good}
 use Rattle.payload.proofs.row_question.Statement.{statement}
 use Rattle.payload.proofs.row_question.Tie as tie
 
-fits-requires : tie.Need-fits-requires
-fits-requires c κs = tt
-
 returns : tie.Need-returns
 returns c = sym (row-unshaped _ _ _ _ _ (sym (c .before .fits2 .ensures) ∙ not-true _ (c .if1 .taken)))
-
-outside-requires : tie.Need-outside-requires
-outside-requires c κs = tt
 
 returns-2 : tie.Need-returns-2
 returns-2 c = sym (row-outside _ _ _ _ _ (sym (c .before .before .before .fits2 .ensures) ∙ not-false _ (c .before .before .if1 .left))
@@ -24,4 +18,4 @@ returns-3 c = sym (row-is-good _ _ _ _ _ (sym (c .before .before .before .fits2 
     (sym (c .before .outside .ensures) ∙ c .if2 .left))
 
 pub row-question-spec : {M : Type 1} → statement M
-row-question-spec = tie.close (tie.spec fits-requires returns outside-requires returns-2 returns-3)
+row-question-spec = tie.close (tie.spec (λ c κs. tt) returns (λ c κs. tt) returns-2 returns-3)

@@ -11,24 +11,19 @@ use borrow.Author.Needs.{needs}
 use Rattle.record.proofs.write_header.Statement.{statement}
 use Rattle.record.proofs.write_header.Tie as tie
 
-write-u32-requires : tie.Need-write-u32-requires
-write-u32-requires c κs = search needs
-
-write-u64-requires : tie.Need-write-u64-requires
-write-u64-requires c κs = search needs
-
-same-length : tie.Need-same-length
-same-length c = search needs
+-- where the length was written
+abbrev length-of : tie.After-write-u64 → tie.After-write-u32
+length-of c = c .before .before .before .before
 
 returns : tie.Need-returns
 unfolding headerBytes leBytes
 returns c =
     let second = c .before .before in
-    let first = second .before .before .before .before in
+    let first = length-of second in
     let a = first .before .before .before .args in
     let len4 : List ℕ = leBytes 4 (a .header .length) in
     second .write-u64 .ensures ∙ ap (λ l. splice 4 (leBytes 8 (a .header .id)) l) (first .write-u32 .ensures)
     ∙ splice-join 0 len4 (leBytes 8 (a .header .id)) (a .slot .now)
 
 pub write-header-spec : {M : Type 1} → statement M
-write-header-spec = tie.close (tie.spec write-u32-requires write-u64-requires same-length returns)
+write-header-spec = tie.close (tie.spec (λ c κs. search needs) (λ c κs. search needs) (λ c. search needs) returns)

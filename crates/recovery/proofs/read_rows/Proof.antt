@@ -53,10 +53,10 @@ use denote.Triple.Table.{entered, cited}
 use denote.Triple.Walked.{says, Stays, stay-dropped, walkOf, goes-dropped, Walks, ends-at, walked, walk-meets}
 use denote.Exit.{yes}
 use denote.Signature.{Slot, plain, shrSliceOf}
-use Rattle.image_rows.specs.declared.ImageRow.{ImageRow}
-use Rattle.image_rows.specs.Rows.{noRow}
-use Rattle.image_rows.proofs.ImageRow as S
-use Rattle.image_rows.proofs.ImageRow.Laws as S′
+use Rattle.segment.specs.declared.ImageRow.{ImageRow}
+use Rattle.segment.specs.Segment.{noRow}
+use Rattle.segment.proofs.ImageRow as S
+use Rattle.segment.proofs.ImageRow.Laws as S′
 use Rattle.image_rows.specs.Rows.{noRows, tooMany, putRow}
 use Rattle.image_rows.specs.declared.Rows.{Rows}
 use Rattle.recovery.proofs.Fold.{upTo, up-zero, up-next, up-all, up-many}

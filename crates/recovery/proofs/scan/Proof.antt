@@ -1,6 +1,8 @@
 -- `recovery::scan` meets its contract: what the scan tells is enough to close the log, by the laws of proofs/Scanned.antt.
 -- Assumes nothing.
 use mathlib.Core.Path.{_≡_}
+use Prim.Native.Nat.{ℕ, _<_}
+use native.Mathlib.Omega.{arith}
 use lib.ListN.{length}
 use borrow.Author.Needs.{needs}
 use Rattle.lists.proofs.Arrays.{unmapped}
@@ -16,18 +18,16 @@ full c = search (needs, unmapped)
 abbrev start-of : tie.After-scan-images → tie.Start
 start-of c = c .before .before .before .before .before .before
 
+-- a range of records begins with 1 or more
+some-first : {s : ℕ} → (s ≡ 0 → ⊥) → 0 < s
+some-first h = omega arith
+
 scan-images-requires : tie.Need-scan-images-requires
 scan-images-requires c κs =
-    let b = c .before .before .before .before .before in walk-asks _ _ (b .args .m) _ (b .args .sorted) _ _ (b .pre) (full b)
-
-refusal-requires : tie.Need-refusal-requires
-refusal-requires c κs = search needs
-
-same-length : tie.Need-same-length
-same-length c = search needs
-
-same-length-2 : tie.Need-same-length-2
-same-length-2 c = search needs
+    let b = c .before .before .before .before .before in (
+      walk-asks _ _ (b .args .m) _ (b .args .sorted) _ _ (b .pre) (full b),
+      record { some = some-first (b .pre .some); order = b .pre .order },
+    )
 
 returns : tie.Need-returns
 returns c =
@@ -42,12 +42,6 @@ close-requires c κs =
     let b = start-of f in
     close-pre _ _ (b .args .m) _ _ _ _ _ (b .pre) (full b) _ (f .scan-images .result) (f .scan-images .ensures) (c .before .if1 .left)
 
-same-length-3 : tie.Need-same-length-3
-same-length-3 c = search needs
-
-same-length-4 : tie.Need-same-length-4
-same-length-4 c = search needs
-
 returns-2 : tie.Need-returns-2
 returns-2 c =
     let e = c .before .before .before .before in
@@ -61,11 +55,11 @@ scan-spec =
     tie.close
     (tie.spec
     scan-images-requires
-    refusal-requires
-    same-length
-    same-length-2
+    (λ c κs. search needs)
+    (λ c. search needs)
+    (λ c. search needs)
     returns
     close-requires
-    same-length-3
-    same-length-4
+    (λ c. search needs)
+    (λ c. search needs)
     returns-2)

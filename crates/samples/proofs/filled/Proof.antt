@@ -1,43 +1,44 @@
--- `samples::filled` ends: each turn leaves a record less.
+-- `samples::filled` meets its contract: each turn appends a record, and leaves one less to append.
 -- Assumes nothing.
-use mathlib.Core.Path.{_≡_}
+use mathlib.Core.Path.{_≡_, refl, sym, ap, _∙_}
+use Prim.Native.Nat.{_-_}
 use lib.ListN.{length}
 use borrow.Author.Needs.{needs}
+use Rattle.samples.specs.Sample.{abcs}
+use Rattle.samples.proofs.Sample.{sample-same, abcs-turn, abcs-none}
 use Rattle.samples.proofs.filled.Statement.{statement}
 use Rattle.samples.proofs.filled.Tie as tie
 
 abbrev Inv-loop : tie.InvT-loop
-Inv-loop area₀ m n log₀ left₀ t7 area log left = length area ≡ length area₀
+Inv-loop area₀ m n log₀ left₀ t7 area log left =
+    (length area ≡ length area₀)
+    × (abcs left (record { log = log; area = area }) ≡ abcs left₀ (record { log = log₀; area = area₀ }))
 
 abbrev μ-loop : tie.MeasureT-loop
 μ-loop area₀ m n log₀ left₀ t7 area log left = left
 
-new-log-requires : tie.Need-new-log-requires Inv-loop μ-loop
-new-log-requires c κs = search needs
-
 loop-holds : tie.Need-loop-holds Inv-loop μ-loop
-loop-holds c = search needs
-
-slice-aggregate-append : tie.Need-slice-aggregate-append Inv-loop μ-loop
-slice-aggregate-append c = search needs
-
-append-requires : tie.Need-append-requires Inv-loop μ-loop
-append-requires c κs = search needs
-
-sub-left : tie.Need-sub-left Inv-loop μ-loop
-sub-left c = search needs
-
-loop-less : tie.Need-loop-less Inv-loop μ-loop
-loop-less c = search needs
+loop-holds c = (search needs, refl)
 
 loop-again : tie.Need-loop-again Inv-loop μ-loop
-loop-again c = search needs
-
-same-length : tie.Need-same-length Inv-loop μ-loop
-same-length c = search needs
+loop-again c =
+    let call = c .before .before .before in
+    let loop = call .before .before .before .before .loop in
+    let did = call .append .ensures in (
+      search needs,
+      ap (abcs (loop .left - 1)) (sample-same _ _ (ap (λ r. r .log) (did .0)) (did .1))
+          ∙ sym (abcs-turn (loop .left) (record { log = loop .log; area = loop .area }) (search needs)) ∙ loop .inv .1,
+    )
 
 returns : tie.Need-returns Inv-loop μ-loop
-returns c = search needs
+returns c =
+    let loop = c .before .loop in
+    let made = c .before .before .before .before .before in
+    let start = made .before .before .before in
+    let whole =
+    sym (abcs-none (loop .left) (record { log = loop .log; area = loop .area }) (search needs)) ∙ loop .inv .1
+    ∙ ap (abcs (start .args .n)) (sample-same _ _ (ap (λ r. r .log) (made .new-log .ensures .0)) (made .new-log .ensures .1)) in
+    (ap (λ s. s .log) whole, ap (λ s. s .area) whole)
 
 pub filled-spec : {M : Type 1} → statement M
 filled-spec =
@@ -45,12 +46,12 @@ filled-spec =
     (tie.spec
     Inv-loop
     μ-loop
-    new-log-requires
+    (λ c κs. search needs)
     loop-holds
-    slice-aggregate-append
-    append-requires
-    sub-left
-    loop-less
+    (λ c. search needs)
+    (λ c κs. search needs)
+    (λ c. search needs)
+    (λ c. search needs)
     loop-again
-    same-length
+    (λ c. search needs)
     returns)

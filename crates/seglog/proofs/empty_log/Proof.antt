@@ -1,14 +1,10 @@
 -- `empty_log` meets its contract. Assumes nothing.
-use mathlib.Core.Path.{_≡_}
 use borrow.Author.Needs.{needs}
 use Rattle.seglog.proofs.empty_log.Statement.{statement}
 use Rattle.seglog.proofs.empty_log.Tie as tie
-
-no-segment-requires : tie.Need-no-segment-requires
-no-segment-requires c κs = search needs
 
 returns : tie.Need-returns
 returns c = cc
 
 pub empty-log-spec : {M : Type 1} → statement M
-empty-log-spec = tie.close (tie.spec no-segment-requires returns)
+empty-log-spec = tie.close (tie.spec (λ c κs. search needs) returns)

@@ -2,14 +2,15 @@
 -- second's: the segments from i on have been seen, and their slots are marked (`Seen`). The measures are the entries left. Assumes nothing.
 use mathlib.Core.Path.{_≡_, refl, sym, _∙_}
 use mathlib.Core.Bool.{true}
-use Prim.Native.Nat.{_-_, _≤_}
-use lib.ListN.{length, drop}
+use Prim.Native.Nat.{_-_, _≤_, _<_}
+use lib.ListN.{length, getD, drop}
 use borrow.Author.Tests.{not-true, not-false}
+use Rattle.segment.specs.Segment.{noSegment}
 use Rattle.seglog.specs.Log.{zerosOf}
 use Rattle.seglog.proofs.Bounds.{first-below, entry-fits, index-fits, entry-inside, entries-end, index-falls}
 use Rattle.seglog.proofs.Bounds.{some-left, none-left, left-falls, left-below, last-below}
 use Rattle.lists.proofs.Arrays.{unmapped}
-use Rattle.seglog.proofs.Slots.{marksOf}
+use Rattle.lists.proofs.Distinct.{marks}
 use Rattle.seglog.proofs.Fit.{Sized, sized-is, sized-count, fit-sizes, fit-dirty, fit-listed, fit-ends, ends-by}
 use Rattle.seglog.proofs.Rows.{
   zeros-found,
@@ -40,25 +41,42 @@ Inv-loop2 bytes log unused used₀ later₀ i₀ used later i = Sized log bytes 
 abbrev μ-loop2 : tie.MeasureT-loop2
 μ-loop2 bytes log unused used₀ later₀ i₀ used later i = i
 
+-- the function's entry, from each loop; the turn of the second loop, from behind the test of its segment
+abbrev start : tie.At-loop Inv-loop μ-loop Inv-loop2 μ-loop2 → tie.Start Inv-loop μ-loop Inv-loop2 μ-loop2
+start l = l .before .before .before
+
+abbrev start2 : tie.At-loop2 Inv-loop μ-loop Inv-loop2 μ-loop2 → tie.Start Inv-loop μ-loop Inv-loop2 μ-loop2
+start2 l = start (l .before .before .before)
+
+abbrev turn : tie.After-listed-good Inv-loop μ-loop Inv-loop2 μ-loop2 → tie.At-loop2 Inv-loop μ-loop Inv-loop2 μ-loop2
+turn c = c .before .before .before
+
 -- an array that came by value has its length
 long-at : (st : tie.Start Inv-loop μ-loop Inv-loop2 μ-loop2) → length (st .args .t1 .segs) ≡ 64
 long-at st = search (needs, unmapped)
 
 -- few entries are listed
-few-at : (l : tie.At-loop2 Inv-loop μ-loop Inv-loop2 μ-loop2) → l .before .before .before .before .before .before .args .t1 .count ≤ 64
+few-at : (l : tie.At-loop2 Inv-loop μ-loop Inv-loop2 μ-loop2) → start2 l .args .t1 .count ≤ 64
 few-at l = sized-count _ _ (l .loop2 .inv .0)
 
-sizes-fit-requires : tie.Need-sizes-fit-requires Inv-loop μ-loop Inv-loop2 μ-loop2
-sizes-fit-requires c κs = tt
+-- the slot of a segment that passed its test has a mark
+slot-below : (c : tie.Else3 Inv-loop μ-loop Inv-loop2 μ-loop2)
+    → getD (start2 (turn (c .before)) .args .t1 .segs) (turn (c .before) .loop2 .i - 1) noSegment .slot < 64
+slot-below c =
+    let l = turn (c .before) in
+    let g = start2 l .args .t1 in
+    seen-slot (g .k) (g .c) (g .count) (g .segs) (l .loop2 .used) (l .loop2 .later) (l .loop2 .i) (l .loop2 .inv .2) (few-at l)
+    (c .before .before .before .loop2-test .taken) _ (c .before .listed-good .ensures) (not-false _ (c .if3 .left))
+    (l .loop2 .inv .0 .sizes .few-slots)
 
 returns : tie.Need-returns Inv-loop μ-loop Inv-loop2 μ-loop2
 returns c =
     let a = c .before .before .args in
-    fit-sizes (a .t1) (a .bytes) (long-at (c .before .before)) (sym (c .before .sizes-fit .ensures) ∙ not-true _ (c .if1 .taken))
+    fit-sizes (a .t1) (a .bytes) (long-at (c .before .before)) (sym (c .before .numbers-good .ensures) ∙ not-true _ (c .if1 .taken))
 
 loop-holds : tie.Need-loop-holds Inv-loop μ-loop Inv-loop2 μ-loop2
 loop-holds c =
-    (sized-is _ _ (long-at (c .before .before)) (sym (c .before .sizes-fit .ensures) ∙ not-false _ (c .if1 .left)), refl)
+    (sized-is _ _ (long-at (c .before .before)) (sym (c .before .numbers-good .ensures) ∙ not-false _ (c .if1 .left)), refl)
 
 mul-is-zero : tie.Need-mul-is-zero Inv-loop μ-loop Inv-loop2 μ-loop2
 mul-is-zero c = entry-fits (c .loop-test .taken)
@@ -66,15 +84,13 @@ mul-is-zero c = entry-fits (c .loop-test .taken)
 element-copy-out-is-zero : tie.Need-element-copy-out-is-zero Inv-loop μ-loop Inv-loop2 μ-loop2
 element-copy-out-is-zero c = c .loop-test .taken
 
-is-zero-requires : tie.Need-is-zero-requires Inv-loop μ-loop Inv-loop2 μ-loop2
-is-zero-requires c κs = tt
-
 returns-2 : tie.Need-returns-2 Inv-loop μ-loop Inv-loop2 μ-loop2
 returns-2 c =
-    let a = c .before .before .before .before .before .before .before .args in
-    let l = c .before .before .before .before .loop in
+    let turned = c .before .before .before in
+    let a = start (turned .before) .args in
+    let l = turned .before .loop in
     fit-dirty (a .t1) (a .bytes) (l .inv .0 .long)
-    (zeros-found (a .t1 .segs) _ (l .unused) (l .inv .1) (entry-inside (l .inv .0 .long) (c .before .before .before .loop-test .taken))
+    (zeros-found (a .t1 .segs) _ (l .unused) (l .inv .1) (entry-inside (l .inv .0 .long) (turned .loop-test .taken))
     (sym (c .before .is-zero .ensures) ∙ not-true _ (c .if2 .taken)))
 
 add-unused : tie.Need-add-unused Inv-loop μ-loop Inv-loop2 μ-loop2
@@ -85,23 +101,22 @@ loop-less c = index-falls (c .before .before .before .loop-test .taken)
 
 loop-again : tie.Need-loop-again Inv-loop μ-loop Inv-loop2 μ-loop2
 loop-again c =
-    let a = c .before .before .before .before .before .before .before .args in
-    let l = c .before .before .before .before .loop in (
+    let turned = c .before .before .before in
+    let a = start (turned .before) .args in
+    let l = turned .before .loop in (
       l .inv .0,
-      zeros-turn (a .t1 .segs) _ (l .unused) (l .inv .1) (entry-inside (l .inv .0 .long) (c .before .before .before .loop-test .taken))
+      zeros-turn (a .t1 .segs) _ (l .unused) (l .inv .1) (entry-inside (l .inv .0 .long) (turned .loop-test .taken))
           (sym (c .before .is-zero .ensures) ∙ not-false _ (c .if2 .left)),
     )
 
-no-segment-requires : tie.Need-no-segment-requires Inv-loop μ-loop Inv-loop2 μ-loop2
-no-segment-requires c κs = tt
-
 loop2-holds : tie.Need-loop2-holds Inv-loop μ-loop Inv-loop2 μ-loop2
-unfolding marksOf
+unfolding marks
 loop2-holds c =
-    let a = c .before .before .before .before .before .args in
-    let l = c .before .before .loop in (
+    let ended = c .before in
+    let a = start (ended .before) .args in
+    let l = ended .before .loop in (
       l .inv .0,
-      sym (zeros-end (a .t1 .segs) _ (l .unused) (l .inv .1) (entries-end (l .inv .0 .long) (c .before .loop-test .left))),
+      sym (zeros-end (a .t1 .segs) _ (l .unused) (l .inv .1) (entries-end (l .inv .0 .long) (ended .loop-test .left))),
       seen-none _ _ _ _ _ _ (l .inv .0 .long) (sized-count _ _ (l .inv .0)) refl,
     )
 
@@ -114,66 +129,44 @@ mul-g c = entry-fits (left-below (c .before .loop2 .inv .2 .within) (few-at (c .
 element-copy-out-g : tie.Need-element-copy-out-g Inv-loop μ-loop Inv-loop2 μ-loop2
 element-copy-out-g c = left-below (c .before .loop2 .inv .2 .within) (few-at (c .before))
 
-listed-good-requires : tie.Need-listed-good-requires Inv-loop μ-loop Inv-loop2 μ-loop2
-listed-good-requires c κs = tt
-
 returns-3 : tie.Need-returns-3 Inv-loop μ-loop Inv-loop2 μ-loop2
 returns-3 c =
-    let a = c .before .before .before .before .before .before .before .before .before .before .args in
-    let l = c .before .before .before .before .loop2 in
-    fit-listed (a .t1) (a .bytes) (l .inv .0 .long)
-    (seen-bad (a .t1 .k) (a .t1 .c) (a .t1 .count) (a .t1 .segs) (l .used) (l .later) (l .i) (l .inv .2)
-    (sized-count _ _ (l .inv .0)) (c .before .before .before .loop2-test .taken) _ (c .before .listed-good .ensures)
-    (not-true _ (c .if3 .taken)))
-
-cast-slot : tie.Need-cast-slot Inv-loop μ-loop Inv-loop2 μ-loop2
-cast-slot c = search needs
+    let l = turn (c .before) in
+    let a = start2 l .args in
+    fit-listed (a .t1) (a .bytes) (l .loop2 .inv .0 .long)
+    (seen-bad (a .t1 .k) (a .t1 .c) (a .t1 .count) (a .t1 .segs) (l .loop2 .used) (l .loop2 .later) (l .loop2 .i) (l .loop2 .inv .2)
+    (few-at l) (c .before .before .before .loop2-test .taken) _ (c .before .listed-good .ensures) (not-true _ (c .if3 .taken)))
 
 array-read-if4 : tie.Need-array-read-if4 Inv-loop μ-loop Inv-loop2 μ-loop2
-array-read-if4 c =
-    let a = c .before .before .before .before .before .before .before .before .before .before .before .args in
-    let l = c .before .before .before .before .before .loop2 in
-    seen-slot (a .t1 .k) (a .t1 .c) (a .t1 .count) (a .t1 .segs) (l .used) (l .later) (l .i) (l .inv .2)
-    (sized-count _ _ (l .inv .0)) (c .before .before .before .before .loop2-test .taken) _ (c .before .before .listed-good .ensures)
-    (not-false _ (c .before .if3 .left))
-    (l .inv .0 .sizes .few-slots)
+array-read-if4 c = slot-below (c .before)
 
 returns-4 : tie.Need-returns-4 Inv-loop μ-loop Inv-loop2 μ-loop2
 returns-4 c =
-    let a = c .before .before .before .before .before .before .before .before .before .before .before .before .args in
-    let l = c .before .before .before .before .before .before .loop2 in
-    fit-listed (a .t1) (a .bytes) (l .inv .0 .long)
-    (seen-twice (a .t1 .k) (a .t1 .c) (a .t1 .count) (a .t1 .segs) (l .used) (l .later) (l .i) (l .inv .2)
-    (sized-count _ _ (l .inv .0)) (c .before .before .before .before .before .loop2-test .taken) _
-    (c .before .before .before .listed-good .ensures) (not-false _ (c .before .before .if3 .left))
-    (l .inv .0 .sizes .few-slots) (c .if4 .taken))
+    let good = c .before .before in
+    let l = turn (good .before) in
+    let a = start2 l .args in
+    fit-listed (a .t1) (a .bytes) (l .loop2 .inv .0 .long)
+    (seen-twice (a .t1 .k) (a .t1 .c) (a .t1 .count) (a .t1 .segs) (l .loop2 .used) (l .loop2 .later) (l .loop2 .i) (l .loop2 .inv .2)
+    (few-at l) (good .before .before .before .loop2-test .taken) _ (good .before .listed-good .ensures) (not-false _ (good .if3 .left))
+    (l .loop2 .inv .0 .sizes .few-slots) (c .if4 .taken))
 
 array-write-used : tie.Need-array-write-used Inv-loop μ-loop Inv-loop2 μ-loop2
-array-write-used c =
-    let a = c .before .before .before .before .before .before .before .before .before .before .before .before .args in
-    let l = c .before .before .before .before .before .before .loop2 in
-    seen-slot (a .t1 .k) (a .t1 .c) (a .t1 .count) (a .t1 .segs) (l .used) (l .later) (l .i) (l .inv .2)
-    (sized-count _ _ (l .inv .0)) (c .before .before .before .before .before .loop2-test .taken) _
-    (c .before .before .before .listed-good .ensures) (not-false _
-    (c .before .before .if3 .left)) (l .inv .0 .sizes .few-slots)
+array-write-used c = slot-below (c .before .before)
 
 loop2-less : tie.Need-loop2-less Inv-loop μ-loop Inv-loop2 μ-loop2
-loop2-less c = left-falls (c .before .before .before .before .before .loop2-test .taken)
+loop2-less c = let good = c .before .before in left-falls (good .before .before .before .loop2-test .taken)
 
 loop2-again : tie.Need-loop2-again Inv-loop μ-loop Inv-loop2 μ-loop2
 loop2-again c =
-    let a = c .before .before .before .before .before .before .before .before .before .before .before .before .args in
-    let l = c .before .before .before .before .before .before .loop2 in (
-      l .inv .0,
-      l .inv .1,
-      seen-more (a .t1 .k) (a .t1 .c) (a .t1 .count) (a .t1 .segs) (l .used) (l .later) (l .i) (l .inv .2)
-          (sized-count _ _ (l .inv .0)) (c .before .before .before .before .before .loop2-test .taken) _
-          (c .before .before .before .listed-good .ensures) (not-false _
-          (c .before .before .if3 .left)) (l .inv .0 .sizes .few-slots) (c .if4 .left),
+    let good = c .before .before in
+    let l = turn (good .before) in
+    let a = start2 l .args in (
+      l .loop2 .inv .0,
+      l .loop2 .inv .1,
+      seen-more (a .t1 .k) (a .t1 .c) (a .t1 .count) (a .t1 .segs) (l .loop2 .used) (l .loop2 .later) (l .loop2 .i) (l .loop2 .inv .2)
+          (few-at l) (good .before .before .before .loop2-test .taken) _ (good .before .listed-good .ensures)
+          (not-false _ (good .if3 .left)) (l .loop2 .inv .0 .sizes .few-slots) (c .if4 .left),
     )
-
-last-of-requires : tie.Need-last-of-requires Inv-loop μ-loop Inv-loop2 μ-loop2
-last-of-requires c κs = tt
 
 element-copy-out-ends-good : tie.Need-element-copy-out-ends-good Inv-loop μ-loop Inv-loop2 μ-loop2
 element-copy-out-ends-good c = first-below
@@ -187,17 +180,16 @@ element-copy-out-ends-good-2 :
 element-copy-out-ends-good-2 c =
     last-below (few-at (c .before .before .before)) (c .before .last-of .ensures)
 
-ends-good-requires : tie.Need-ends-good-requires Inv-loop μ-loop Inv-loop2 μ-loop2
-ends-good-requires c κs = tt
-
 returns-5 : tie.Need-returns-5 Inv-loop μ-loop Inv-loop2 μ-loop2
 returns-5 c =
-    let a = c .before .before .before .before .before .before .before .before .before .before .before .args in
-    let l = c .before .before .before .before .before .loop2 in
-    fit-ends (a .t1) (a .bytes) _ (l .inv .0) (l .inv .1)
-    (seen-all (a .t1 .k) (a .t1 .c) (a .t1 .count) (a .t1 .segs) (l .used) (l .later) (l .i) (l .inv .2)
-    (none-left (c .before .before .before .before .loop2-test .left)))
-    (c .ends-good .ensures ∙ ends-by (a .t1) (a .bytes) _ (l .inv .0) (c .before .before .before .last-of .ensures))
+    let last = c .before .before .before in
+    let ended = last .before in
+    let l = ended .before in
+    let a = start2 l .args in
+    fit-ends (a .t1) (a .bytes) _ (l .loop2 .inv .0) (l .loop2 .inv .1)
+    (seen-all (a .t1 .k) (a .t1 .c) (a .t1 .count) (a .t1 .segs) (l .loop2 .used) (l .loop2 .later) (l .loop2 .i) (l .loop2 .inv .2)
+    (none-left (ended .loop2-test .left)))
+    (c .ends-good .ensures ∙ ends-by (a .t1) (a .bytes) _ (l .loop2 .inv .0) (last .last-of .ensures))
 
 pub fits-spec : {M : Type 1} → statement M
 fits-spec =
@@ -207,32 +199,32 @@ fits-spec =
     μ-loop
     Inv-loop2
     μ-loop2
-    sizes-fit-requires
+    (λ c κs. tt)
     returns
     loop-holds
     mul-is-zero
     element-copy-out-is-zero
-    is-zero-requires
+    (λ c κs. tt)
     returns-2
     add-unused
     loop-less
     loop-again
-    no-segment-requires
+    (λ c κs. tt)
     loop2-holds
     sub-at
     mul-g
     element-copy-out-g
-    listed-good-requires
+    (λ c κs. tt)
     returns-3
-    cast-slot
+    (λ c. search needs)
     array-read-if4
     returns-4
     array-write-used
     loop2-less
     loop2-again
-    last-of-requires
+    (λ c κs. tt)
     element-copy-out-ends-good
     mul-ends-good
     element-copy-out-ends-good-2
-    ends-good-requires
+    (λ c κs. tt)
     returns-5)

@@ -1,5 +1,5 @@
 -- `next_to` meets its contract. Assumes nothing.
-use mathlib.Core.Path.{_≡_, sym, _∙_}
+use mathlib.Core.Path.{sym, _∙_}
 use Prim.Native.Nat.{_+_, _-_}
 use native.Mathlib.Omega.{arith}
 use lib.Dec.{eqb}
@@ -12,12 +12,6 @@ use Rattle.seglog.proofs.next_to.Tie as tie
 returns : tie.Need-returns
 returns c = let a = c .before .args in sym (ne-eqb (a .b) (a .a + 1) (λ z. omega arith))
 
-sub-same : tie.Need-sub-same
-sub-same c = search needs
-
-same-requires : tie.Need-same-requires
-same-requires c κs = search needs
-
 returns-2 : tie.Need-returns-2
 returns-2 c =
     let a = c .before .before .args in
@@ -28,4 +22,4 @@ returns-2 c =
     (λ h. eq-eqb (a .b - 1) (a .a) (omega (arith, some, eqb-true (a .b) (a .a + 1) h)))
 
 pub next-to-spec : {M : Type 1} → statement M
-next-to-spec = tie.close (tie.spec returns sub-same same-requires returns-2)
+next-to-spec = tie.close (tie.spec returns (λ c. search needs) (λ c κs. search needs) returns-2)

@@ -1,10 +1,11 @@
 -- `seglog_prune::cleared` meets its contract: the zeros are written over the entries one by one.
 -- Assumes nothing.
-use mathlib.Core.Path.{_∙_}
-use Prim.Native.Nat.{_-_}
-use lib.ListN.{replicate}
-use Rattle.seglog.specs.Log.{noSegment}
-use Rattle.seglog_prune.proofs.Drops.{Moved, paste-none, clear-turn, clear-end}
+use mathlib.Core.Path.{ap, _∙_}
+use Prim.Native.Nat.{_+_, _-_}
+use lib.ListN.{set, replicate}
+use Rattle.segment.specs.declared.Segment.{Segment}
+use Rattle.segment.specs.Segment.{noSegment}
+use Rattle.seglog_prune.proofs.Drop.{Moved, paste-none, clear-turn, clear-end}
 use borrow.Author.Needs.{needs}
 use Rattle.seglog_prune.proofs.cleared.Statement.{statement}
 use Rattle.seglog_prune.proofs.cleared.Tie as tie
@@ -23,31 +24,14 @@ loop-holds c = record {
       (replicate (64 - c .args .left) noSegment) (c .args .left);
 }
 
-sub-loop : tie.Need-sub-loop Inv-loop μ-loop
-sub-loop c = search needs
-
-add-out : tie.Need-add-out Inv-loop μ-loop
-add-out c = search needs
-
-mul-out : tie.Need-mul-out Inv-loop μ-loop
-mul-out c = search needs
-
-array-set-from-out : tie.Need-array-set-from-out Inv-loop μ-loop
-array-set-from-out c = search needs
-
-add-i : tie.Need-add-i Inv-loop μ-loop
-add-i c = search needs
-
-loop-less : tie.Need-loop-less Inv-loop μ-loop
-loop-less c = search needs
-
 loop-again : tie.Need-loop-again Inv-loop μ-loop
 loop-again c =
-    let l = c .before .loop in
+    let l = c .before .before .loop in
     record {
       long = l .inv .long;
       within = search needs;
-      so-far = clear-turn 64 _ (l .inv .long) _ (search needs) (l .out) (l .i) (search needs) (l .inv .so-far);
+      so-far = ap (λ (x : Segment). set (l .out) (c .before .before .before .args .left + l .i) x) (c .no-segment .ensures)
+          ∙ clear-turn 64 _ (l .inv .long) _ (search needs) (l .out) (l .i) (search needs) (l .inv .so-far);
     }
 
 returns : tie.Need-returns Inv-loop μ-loop
@@ -62,11 +46,12 @@ cleared-spec =
     Inv-loop
     μ-loop
     loop-holds
-    sub-loop
-    add-out
-    mul-out
-    array-set-from-out
-    add-i
-    loop-less
+    (λ c. search needs)
+    (λ c κs. tt)
+    (λ c. search needs)
+    (λ c. search needs)
+    (λ c. search needs)
+    (λ c. search needs)
+    (λ c. search needs)
     loop-again
     returns)

@@ -2,7 +2,7 @@
 -- Assumes nothing.
 use mathlib.Core.Path.{refl}
 use Prim.Native.Nat.{_-_}
-use Rattle.seglog_prune.proofs.Drops.{Leads, leads-next, leads-stop, leads-end}
+use Rattle.seglog_prune.proofs.Drop.{Leads, leads-next, leads-stop, leads-end}
 use borrow.Author.Needs.{needs}
 use Rattle.seglog_prune.proofs.leading.Statement.{statement}
 use Rattle.seglog_prune.proofs.leading.Tie as tie
@@ -13,33 +13,25 @@ Inv-loop count n segs i₀ i = Leads n count segs i
 abbrev μ-loop : tie.MeasureT-loop
 μ-loop count n segs i₀ i = count - i
 
+-- the loop's turn, where the segment stays and where it goes
+abbrev stays-at : tie.Then1 Inv-loop μ-loop → tie.At-loop Inv-loop μ-loop
+stays-at c = c .before .before .before .before
+
+abbrev goes-at : tie.Else1 Inv-loop μ-loop → tie.At-loop Inv-loop μ-loop
+goes-at c = c .before .before .before .before
+
 loop-holds : tie.Need-loop-holds Inv-loop μ-loop
 loop-holds c = record { long = search needs; within = search needs; so-far = refl }
 
-add-loop : tie.Need-add-loop Inv-loop μ-loop
-add-loop c = search needs
-
-mul-g : tie.Need-mul-g Inv-loop μ-loop
-mul-g c = search needs
-
-array-copy-out-g : tie.Need-array-copy-out-g Inv-loop μ-loop
-array-copy-out-g c = search needs
-
 returns : tie.Need-returns Inv-loop μ-loop
 returns c =
-    let l = c .before .before .before .before .loop in
-    (search needs, leads-stop _ _ _ (c .before .before .before .before .before .pre) (l .i) (l .inv) (search needs) (c .if1 .taken))
-
-add-i : tie.Need-add-i Inv-loop μ-loop
-add-i c = search needs
-
-loop-less : tie.Need-loop-less Inv-loop μ-loop
-loop-less c = search needs
+    let l = stays-at c .loop in
+    (search needs, leads-stop _ _ _ (stays-at c .before .pre) (l .i) (l .inv) (search needs) (c .if1 .taken))
 
 loop-again : tie.Need-loop-again Inv-loop μ-loop
 loop-again c =
-    let l = c .before .before .before .before .loop in
-    leads-next _ _ _ (c .before .before .before .before .before .pre) (l .i) (l .inv) (search needs) (c .if1 .left)
+    let l = goes-at c .loop in
+    leads-next _ _ _ (goes-at c .before .pre) (l .i) (l .inv) (search needs) (c .if1 .left)
 
 returns-2 : tie.Need-returns-2 Inv-loop μ-loop
 returns-2 c =
@@ -53,11 +45,11 @@ leading-spec =
     Inv-loop
     μ-loop
     loop-holds
-    add-loop
-    mul-g
-    array-copy-out-g
+    (λ c. search needs)
+    (λ c. search needs)
+    (λ c. search needs)
     returns
-    add-i
-    loop-less
+    (λ c. search needs)
+    (λ c. search needs)
     loop-again
     returns-2)

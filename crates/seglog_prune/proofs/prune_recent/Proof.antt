@@ -6,24 +6,25 @@ use Prim.Native.Nat.{ℕ, _+_, _-_, _*_, _≤_, _<_}
 use native.Mathlib.Nat.{le-trans}
 use native.Mathlib.Omega.{arith}
 use mir.Facts.{fits-widen}
-use lib.ListN.{length, getD, take, drop, replicate}
-use Rattle.lists.specs.Splice.{splice}
+use lib.ListN.{length, getD, take, drop}
+use Rattle.segment.proofs.Cut.{truncated-padded}
 use Rattle.seglog.specs.declared.Log.{Log}
-use Rattle.seglog.specs.declared.Segment.{Segment}
-use Rattle.seglog.specs.Log.{noSegment}
+use Rattle.segment.specs.declared.Segment.{Segment}
+use Rattle.segment.specs.Segment.{noSegment, imageIn}
 use Rattle.seglog.specs.Shape.{SizesObey}
 use Rattle.seglog.specs.New.{accepted}
 use Rattle.lists.proofs.Arrays.{unmapped}
 use Rattle.seglog.proofs.Fit.{SegmentGood}
 use Rattle.seglog_prune.specs.declared.Early.the-variants.{Onward}
-use Rattle.seglog_prune.specs.Prune.{cutAt, findCut, imageIn, pruneAnswer, pruneArea}
-use Rattle.seglog_prune.specs.Steps.{earlyOf, cutOf}
-use Rattle.seglog_prune.proofs.Bounds.{last-fits, last-below, slot-fits, part-fits, part-within, start-first, rest-of}
-use Rattle.seglog_prune.proofs.Bounds.{take-within, image-room}
+use Rattle.lists.specs.Outcome.{done}
+use Rattle.seglog_prune.specs.Cut.{findCut, cutOf}
+use Rattle.seglog_prune.specs.Prune.{pruneAnswer, pruneArea}
+use Rattle.seglog_prune.proofs.Bounds.{last-fits, last-below, slot-fits, part-fits, part-within, start-first, take-within}
 use Rattle.seglog_prune.proofs.Cut.{cut-within}
-use Rattle.seglog_prune.proofs.Decide.{inner, plain-few, fits-plain}
-use Rattle.seglog_prune.proofs.Inside.{area-small}
-use Rattle.seglog_prune.proofs.Ways.{
+use Rattle.seglog_prune.proofs.Decide.{early-inner, plain-few, fits-plain}
+use Rattle.seglog_prune.proofs.PruneInside.{area-small}
+use Rattle.seglog_prune.proofs.Prune.{
+  earlyLog,
   recent-settled,
   Staying,
   range,
@@ -31,7 +32,7 @@ use Rattle.seglog_prune.proofs.Ways.{
   left-some,
   head-good,
   head-inside,
-  recent-lost,
+  recent-refuses-10,
   recent-answer,
   recent-area,
 }
@@ -40,6 +41,9 @@ use Rattle.seglog_prune.proofs.prune_recent.Statement.{statement}
 use Rattle.seglog_prune.proofs.prune_recent.Tie as tie
 
 -- the places of the code
+abbrev early-at : tie.After-enum-told → tie.Start
+early-at c = c .before .before .before .before
+
 abbrev start-of : tie.After-remaining → tie.Start
 start-of c = c .before .before .before .before .before .before
 
@@ -61,12 +65,19 @@ head-of c = getD (log-of c .segs) (left-of c - 1) noSegment
 abbrev left-at : tie.After-find-cut → tie.After-remaining
 left-at c = c .before .before .before .before .before .before
 
+-- where the search answered, and where the area is cut
+abbrev found-at : tie.After-known-told → tie.After-find-cut
+found-at c = c .before .before .before
+
+abbrev cut-told : tie.After-truncate → tie.After-known-told
+cut-told c = c .before .before
+
 -- what is known there
 long-of : (s : tie.Start) → length (s .args .log .segs) ≡ 64
 long-of s = search (needs, unmapped)
 
-onward-here : (c : tie.After-enum-told) → let a = c .before .before .before .before .args in
-    Onward ≡ earlyOf (a .log) (length (a .area .now)) (a .new-end-live)
+onward-here : (c : tie.After-enum-told) → let a = early-at c .args in
+    Onward ≡ earlyLog (a .log) (a .area .now) (a .new-end-live)
 onward-here c = sym (c .enum-told .given .1) ∙ c .before .before .decide-early .ensures
 
 staying-of : (c : tie.After-remaining) → Staying (log-of c) (area-of c) (end-of c) (left-of c)
@@ -116,23 +127,17 @@ found : (c : tie.After-find-cut) → let r = left-at c in
 found c = let r = left-at c in c .find-cut .ensures ∙ ap (λ (img : List ℕ). findCut img (end-of r) 0) (image-is r)
 
 -- the cut that was found
-cut-of : (c : tie.After-known-told) → let r = left-at (c .before .before .before) in
-    findCut (imageIn (area-of r) (log-of r .c) (head-of r)) (end-of r) 0 ≡ cutAt (c .before .end .given .0 .0)
-cut-of c = sym (found (c .before .before .before)) ∙ ap cutOf (c .before .end .given .1)
+cut-of : (c : tie.After-known-told) → let r = left-at (found-at c) in
+    findCut (imageIn (area-of r) (log-of r .c) (head-of r)) (end-of r) 0 ≡ done (c .before .end .given .0 .0)
+cut-of c = sym (found (found-at c)) ∙ ap cutOf (c .before .end .given .1)
 
-cut-small : (c : tie.After-known-told) → c .before .end .given .0 .0 ≤ log-of (left-at (c .before .before .before)) .c
+cut-small : (c : tie.After-known-told) → c .before .end .given .0 .0 ≤ log-of (left-at (found-at c)) .c
 cut-small c =
-    let r = left-at (c .before .before .before) in
+    let r = left-at (found-at c) in
     cut-within _ _ _ _ (cut-of c) (image-small r) (pages r .whole-pages)
-
-decide-early-requires : tie.Need-decide-early-requires
-decide-early-requires c κs = tt
 
 enum-told : tie.Need-enum-told
 enum-told c = c .match .keys1
-
-settled-requires : tie.Need-settled-requires
-settled-requires c κs = tt
 
 returns : tie.Need-returns
 returns c =
@@ -144,8 +149,8 @@ returns c =
 
 remaining-requires : tie.Need-remaining-requires
 remaining-requires c κs =
-    let a = c .before .before .before .before .before .args in
-    plain-few (a .log) (fits-plain (a .log) (length (a .area .now)) (inner _ _ _ (onward-here (c .before)) .fits))
+    let a = early-at (c .before) .args in
+    plain-few (a .log) (fits-plain (a .log) (length (a .area .now)) (early-inner _ _ _ (onward-here (c .before)) .good))
 
 sub-head : tie.Need-sub-head
 sub-head c = some c
@@ -172,12 +177,7 @@ part-find-cut-start : tie.Need-part-find-cut-start
 part-find-cut-start c = start-first _ _
 
 part-find-cut-end : tie.Need-part-find-cut-end
-part-find-cut-end c = let r = c .before .before .before .before in part-within _ _ _ (inside r) (good r .size)
-
-find-cut-requires : tie.Need-find-cut-requires
-find-cut-requires c κs =
-    let r = c .before .before .before .before .before in
-    image-room (ap length (image-is r)) (image-small r) (pages r .at-most)
+part-find-cut-end c = let part = c .before in let r = part .before .before .before in part-within _ _ _ (inside r) (good r .size)
 
 enum-known-end : tie.Need-enum-known-end
 enum-known-end c = c .match2 .keys1
@@ -192,45 +192,32 @@ returns-2 : tie.Need-returns-2
 returns-2 c =
     let cut = c .before .before in
     let r = left-at cut in
-    let is = recent-lost (log-of r) (area-of r) (end-of r) (left-of r) (staying-of r)
+    let is = recent-refuses-10 (log-of r) (area-of r) (end-of r) (left-of r) (staying-of r)
     (sym (found cut) ∙ ap cutOf (c .enum-told2 .given .1)) in
     (ap (pruneAnswer (log-of r)) (sym is), ap (pruneArea (area-of r)) (sym is))
 
-add-zero-fill : tie.Need-add-zero-fill
-add-zero-fill c =
-    let r = left-at (c .before .before .before .before) in
-    part-fits _ _ _ (inside r) (small r) (cut-small (c .before))
-
-zero-fill-requires : tie.Need-zero-fill-requires
-zero-fill-requires c κs = tt
-
 ended-requires : tie.Need-ended-requires
 ended-requires c κs =
-    let r = left-at (c .before .before .before .before .before .before .before) in
+    let r = left-at (found-at (cut-told (c .before .before))) in
     (some r, few r)
-
-same-length-2 : tie.Need-same-length-2
-same-length-2 c = search needs
 
 returns-3 : tie.Need-returns-3
 returns-3 c =
-    let told = c .before .before .before .before .before in
-    let r = left-at (told .before .before .before) in
+    let told = cut-told (c .before .before .before) in
+    let r = left-at (found-at told) in
     let x = told .before .end .given .0 .0 in
-    let zeros = rest-of (head-of r .slot * log-of r .c) (head-of r .size) x in (
+    let padded = truncated-padded (area-of r) (log-of r .c) x (head-of r) (inside r) (cut-small told) in (
       ap accepted (c .ended .ensures) ∙ recent-answer (log-of r) (area-of r) (end-of r) (left-of r) (staying-of r) x (cut-of told),
-      c .before .before .before .zero-fill .ensures
-          ∙ ap (λ (k : ℕ). splice (head-of r .slot * log-of r .c + head-of r .size) (replicate k 0) (area-of r)) zeros
-          ∙ recent-area (log-of r) (area-of r) (end-of r) (left-of r) (staying-of r) x (cut-of told),
+      c .before .before .before .truncate .ensures ∙ padded ∙ recent-area (log-of r) (area-of r) (end-of r) (left-of r) (staying-of r) x (cut-of told),
     )
 
 pub prune-recent-spec : {M : Type 1} → statement M
 prune-recent-spec =
     tie.close
     (tie.spec
-    decide-early-requires
+    (λ c κs. tt)
     enum-told
-    settled-requires
+    (λ c κs. tt)
     returns
     remaining-requires
     sub-head
@@ -242,13 +229,12 @@ prune-recent-spec =
     sub-find-cut
     part-find-cut-start
     part-find-cut-end
-    find-cut-requires
+    (λ c κs. tt)
     enum-known-end
     enum-told-2
     same-length
     returns-2
-    add-zero-fill
-    zero-fill-requires
+    (λ c κs. tt)
     ended-requires
-    same-length-2
+    (λ c. search needs)
     returns-3)

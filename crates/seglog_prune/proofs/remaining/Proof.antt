@@ -2,7 +2,7 @@
 -- Assumes nothing.
 use mathlib.Core.Path.{refl, _∙_}
 use native.Mathlib.Omega.{arith}
-use Rattle.seglog_prune.proofs.Drops.{Trails, new-on, new-stay, new-none}
+use Rattle.seglog_prune.proofs.Drop.{Trails, new-on, new-stay, new-none}
 use borrow.Author.Needs.{needs}
 use Rattle.seglog_prune.proofs.remaining.Statement.{statement}
 use Rattle.seglog_prune.proofs.remaining.Tie as tie
@@ -13,32 +13,24 @@ Inv-loop count n segs left₀ left = Trails n count segs left
 abbrev μ-loop : tie.MeasureT-loop
 μ-loop count n segs left₀ left = left
 
+-- the loop's turn, where the segment stays and where it goes
+abbrev stays-at : tie.Then1 Inv-loop μ-loop → tie.At-loop Inv-loop μ-loop
+stays-at c = c .before .before .before .before
+
+abbrev goes-at : tie.Else1 Inv-loop μ-loop → tie.At-loop Inv-loop μ-loop
+goes-at c = c .before .before .before .before
+
 loop-holds : tie.Need-loop-holds Inv-loop μ-loop
 loop-holds c = record { long = search needs; within = search needs; so-far = refl }
 
-sub-g : tie.Need-sub-g Inv-loop μ-loop
-sub-g c = search needs
-
-mul-g : tie.Need-mul-g Inv-loop μ-loop
-mul-g c = search needs
-
-array-copy-out-g : tie.Need-array-copy-out-g Inv-loop μ-loop
-array-copy-out-g c = search needs
-
 returns : tie.Need-returns Inv-loop μ-loop
 returns c =
-    let l = c .before .before .before .before .loop in
+    let l = stays-at c .loop in
     (search needs, l .inv .so-far ∙ new-stay _ _ (l .left) (search needs) (omega (arith, l .inv .long, l .inv .within)) (c .if1 .taken))
-
-sub-left : tie.Need-sub-left Inv-loop μ-loop
-sub-left c = search needs
-
-loop-less : tie.Need-loop-less Inv-loop μ-loop
-loop-less c = search needs
 
 loop-again : tie.Need-loop-again Inv-loop μ-loop
 loop-again c =
-    let l = c .before .before .before .before .loop in
+    let l = goes-at c .loop in
     record {
       long = l .inv .long;
       within = search needs;
@@ -57,11 +49,11 @@ remaining-spec =
     Inv-loop
     μ-loop
     loop-holds
-    sub-g
-    mul-g
-    array-copy-out-g
+    (λ c. search needs)
+    (λ c. search needs)
+    (λ c. search needs)
     returns
-    sub-left
-    loop-less
+    (λ c. search needs)
+    (λ c. search needs)
     loop-again
     returns-2)

@@ -8,26 +8,17 @@ use borrow.Author.Needs.{needs}
 use Rattle.seglog_prune.proofs.settled.Statement.{statement}
 use Rattle.seglog_prune.proofs.settled.Tie as tie
 
-enum-known-outcome : tie.Need-enum-known-outcome
-enum-known-outcome c = search needs
-
-enum-told : tie.Need-enum-told
-enum-told c = search needs
-
-emptied-requires : tie.Need-emptied-requires
-emptied-requires c κs = tt
-
 returns : tie.Need-returns
 returns c = sym (ap (settledOf (c .before .before .before .args .log)) (c .before .outcome .given .1))
 
 returns-2 : tie.Need-returns-2
 returns-2 c =
     let told = c .before in
-    ap accepted (c .emptied .ensures) ∙ sym (ap (settledOf (told .before .before .args .log)) (told .enum-told .given .1))
+    ap accepted (c .empty-log .ensures) ∙ sym (ap (settledOf (told .before .before .args .log)) (told .enum-told .given .1))
 
 returns-3 : tie.Need-returns-3
 returns-3 c = settled-given _ (c .before .args .outcome) (c .match .keys3)
 
 pub settled-spec : {M : Type 1} → statement M
 settled-spec =
-    tie.close (tie.spec enum-known-outcome enum-told emptied-requires returns returns-2 returns-3)
+    tie.close (tie.spec (λ c. search needs) (λ c. search needs) (λ c κs. tt) returns returns-2 returns-3)

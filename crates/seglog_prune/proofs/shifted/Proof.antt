@@ -2,7 +2,7 @@
 -- Assumes nothing.
 use Prim.Native.Nat.{_-_}
 use lib.ListN.{drop}
-use Rattle.seglog_prune.proofs.Drops.{Moved, shift-turn, shift-whole}
+use Rattle.seglog_prune.proofs.Drop.{Moved, shift-turn, shift-whole}
 use borrow.Author.Needs.{needs}
 use Rattle.seglog_prune.proofs.shifted.Statement.{statement}
 use Rattle.seglog_prune.proofs.shifted.Tie as tie
@@ -13,33 +13,6 @@ Inv-loop first segs out₀ i₀ out i = Moved segs 0 (drop first segs) out (64 -
 abbrev μ-loop : tie.MeasureT-loop
 μ-loop first segs out₀ i₀ out i = 64 - first - i
 
-loop-holds : tie.Need-loop-holds Inv-loop μ-loop
-loop-holds c = search needs
-
-sub-loop : tie.Need-sub-loop Inv-loop μ-loop
-sub-loop c = search needs
-
-add-out : tie.Need-add-out Inv-loop μ-loop
-add-out c = search needs
-
-mul-out : tie.Need-mul-out Inv-loop μ-loop
-mul-out c = search needs
-
-array-copy-out-out : tie.Need-array-copy-out-out Inv-loop μ-loop
-array-copy-out-out c = search needs
-
-mul-out-2 : tie.Need-mul-out-2 Inv-loop μ-loop
-mul-out-2 c = search needs
-
-array-set-from-out : tie.Need-array-set-from-out Inv-loop μ-loop
-array-set-from-out c = search needs
-
-add-i : tie.Need-add-i Inv-loop μ-loop
-add-i c = search needs
-
-loop-less : tie.Need-loop-less Inv-loop μ-loop
-loop-less c = search needs
-
 loop-again : tie.Need-loop-again Inv-loop μ-loop
 loop-again c =
     let l = c .before .before .loop in
@@ -49,12 +22,6 @@ loop-again c =
       so-far = shift-turn 64 _ (l .inv .long) (c .before .before .before .args .first) (search needs) (l .out) (l .i) (search needs)
           (l .inv .so-far);
     }
-
-sub-cleared : tie.Need-sub-cleared Inv-loop μ-loop
-sub-cleared c = search needs
-
-cleared-requires : tie.Need-cleared-requires Inv-loop μ-loop
-cleared-requires c κs = search needs
 
 returns : tie.Need-returns Inv-loop μ-loop
 returns c =
@@ -67,16 +34,16 @@ shifted-spec =
     (tie.spec
     Inv-loop
     μ-loop
-    loop-holds
-    sub-loop
-    add-out
-    mul-out
-    array-copy-out-out
-    mul-out-2
-    array-set-from-out
-    add-i
-    loop-less
+    (λ c. search needs)
+    (λ c. search needs)
+    (λ c. search needs)
+    (λ c. search needs)
+    (λ c. search needs)
+    (λ c. search needs)
+    (λ c. search needs)
+    (λ c. search needs)
+    (λ c. search needs)
     loop-again
-    sub-cleared
-    cleared-requires
+    (λ c. search needs)
+    (λ c κs. search needs)
     returns)

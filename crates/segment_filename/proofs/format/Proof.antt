@@ -8,81 +8,51 @@ use lib.ListN.{length}
 use borrow.Author.Needs.{needs}
 use Rattle.lists.specs.Splice.{splice}
 use Rattle.segment_filename.specs.Digits.{digits}
-use Rattle.segment_filename.specs.Format.{dot, suffix}
-use Rattle.segment_filename.proofs.Written.{given-empty, given-short, given-fits, name-pieces}
+use Rattle.segment_filename.specs.Formatting.{dot, suffix}
+use Rattle.segment_filename.proofs.Formatting.{format-refuses-30, format-refuses-36, format-accepts, name-pieces}
 use Rattle.segment_filename.proofs.format.Statement.{statement}
 use Rattle.segment_filename.proofs.format.Tie as tie
 
+-- the places of the code: where it starts, and where each of the four pieces was written
+abbrev start : tie.Else1 → tie.Start
+start c = c .before .before .before
+
+abbrev copy-1 : tie.After-copy-into2 → tie.After-copy-into
+copy-1 c = c .before .before .before .before .before
+
+abbrev copy-2 : tie.After-copy-into3 → tie.After-copy-into2
+copy-2 c = c .before .before .before .before .before
+
+abbrev copy-3 : tie.After-copy-into4 → tie.After-copy-into3
+copy-3 c = c .before .before .before .before .before
+
 returns : tie.Need-returns
-returns c = let a = c .before .before .before .args in given-empty (a .prefix .now) (a .id) (a .out .now) (c .if1 .taken)
+returns c = let a = c .before .before .before .args in format-refuses-30 (a .prefix .now) (a .id) (a .out .now) (c .if1 .taken)
 
 returns-2 : tie.Need-returns-2
 returns-2 c =
-    let a = c .before .before .before .before .args in
-    given-short (a .prefix .now) (a .id) (a .out .now) (c .before .if1 .left) (omega arith)
-
-sub-if3 : tie.Need-sub-if3
-sub-if3 c = search needs
+    let a = start (c .before) .args in
+    format-refuses-36 (a .prefix .now) (a .id) (a .out .now) (c .before .if1 .left) (omega arith)
 
 returns-3 : tie.Need-returns-3
 returns-3 c =
-    let a = c .before .before .before .before .before .args in
-    given-short (a .prefix .now) (a .id) (a .out .now) (c .before .before .if1 .left) (omega arith)
-
-ten-digits-requires : tie.Need-ten-digits-requires
-ten-digits-requires c κs = search needs
-
-copy-into-requires : tie.Need-copy-into-requires
-copy-into-requires c κs = search needs
-
-slice-aggregate-copy-into : tie.Need-slice-aggregate-copy-into
-slice-aggregate-copy-into c = search needs
-
-copy-into-requires-2 : tie.Need-copy-into-requires-2
-copy-into-requires-2 c κs = search needs
-
-add-copy-into : tie.Need-add-copy-into
-add-copy-into c = search needs
-
-slice-aggregate-copy-into-2 : tie.Need-slice-aggregate-copy-into-2
-slice-aggregate-copy-into-2 c = search needs
-
-copy-into-requires-3 : tie.Need-copy-into-requires-3
-copy-into-requires-3 c κs = search needs
-
-add-copy-into-2 : tie.Need-add-copy-into-2
-add-copy-into-2 c = search needs
-
-slice-aggregate-copy-into-3 : tie.Need-slice-aggregate-copy-into-3
-slice-aggregate-copy-into-3 c = search needs
-
-copy-into-requires-4 : tie.Need-copy-into-requires-4
-copy-into-requires-4 c κs = search needs
-
-add-t9 : tie.Need-add-t9
-add-t9 c = search needs
-
-same-length : tie.Need-same-length
-same-length c = search needs
+    let a = start (c .before .before) .args in
+    format-refuses-36 (a .prefix .now) (a .id) (a .out .now) (c .before .before .if1 .left) (omega arith)
 
 returns-4 : tie.Need-returns-4
 returns-4 c =
-    let w4 = c .before .before .copy-into4 in
-    let b4 = c .before .before .before .before .before .before .before in
-    let w3 = b4 .copy-into3 in
-    let b3 = b4 .before .before .before .before .before in
-    let w2 = b3 .copy-into2 in
-    let b2 = b3 .before .before .before .before .before in
-    let w1 = b2 .copy-into in
-    let d = b2 .before .before .ten-digits in
-    let no = b2 .before .before .before in
-    let a = no .before .before .before .before .before .args in
-    let given = given-fits (a .prefix .now) (a .id) (a .out .now) (no .before .before .if1 .left) (omega arith) in (
+    let w4 = c .before .before in
+    let w3 = copy-3 w4 in
+    let w2 = copy-2 w3 in
+    let w1 = copy-1 w2 in
+    let fits = w1 .before .before .before in
+    let a = start (fits .before .before) .args in
+    let n : ℕ = length (a .prefix .now) in
+    let given = format-accepts (a .prefix .now) (a .id) (a .out .now) (fits .before .before .if1 .left) (omega arith) in (
       given .0,
-      w4 .ensures ∙ ap (splice (length (a .prefix .now) + 11) suffix) (w3 .ensures
-          ∙ ap (λ (l : List ℕ). splice (length (a .prefix .now) + 1) l (w2 .last .0)) (d .ensures)
-          ∙ ap (splice (length (a .prefix .now) + 1) (digits 10 (a .id)))
-          (w2 .ensures ∙ ap (splice (length (a .prefix .now)) dot) (w1 .ensures)))
+      w4 .copy-into4 .ensures ∙ ap (splice (n + 11) suffix) (w3 .copy-into3 .ensures
+          ∙ ap (λ (l : List ℕ). splice (n + 1) l (w2 .copy-into2 .last .0)) (w1 .before .before .ten-digits .ensures)
+          ∙ ap (splice (n + 1) (digits 10 (a .id))) (w2 .copy-into2 .ensures ∙ ap (splice n dot) (w1 .copy-into .ensures)))
           ∙ name-pieces (a .prefix .now) (a .id) (a .out .now) ∙ given .1,
     )
 
@@ -92,18 +62,18 @@ format-spec =
     (tie.spec
     returns
     returns-2
-    sub-if3
+    (λ c. search needs)
     returns-3
-    ten-digits-requires
-    copy-into-requires
-    slice-aggregate-copy-into
-    copy-into-requires-2
-    add-copy-into
-    slice-aggregate-copy-into-2
-    copy-into-requires-3
-    add-copy-into-2
-    slice-aggregate-copy-into-3
-    copy-into-requires-4
-    add-t9
-    same-length
+    (λ c κs. search needs)
+    (λ c κs. search needs)
+    (λ c. search needs)
+    (λ c κs. search needs)
+    (λ c. search needs)
+    (λ c. search needs)
+    (λ c κs. search needs)
+    (λ c. search needs)
+    (λ c. search needs)
+    (λ c κs. search needs)
+    (λ c. search needs)
+    (λ c. search needs)
     returns-4)

@@ -16,8 +16,9 @@ Inv-loop s at word i₀ i = (i ≤ length word) × (at + length word ≤ length 
 abbrev μ-loop : tie.MeasureT-loop
 μ-loop s at word i₀ i = length word - i
 
-sub-if1 : tie.Need-sub-if1 Inv-loop μ-loop
-sub-if1 c = search needs
+-- the loop's turn in which two bytes are compared
+abbrev turn : tie.After-shared-slice-known2 Inv-loop μ-loop → tie.At-loop Inv-loop μ-loop
+turn c = c .before .before .before
 
 returns : tie.Need-returns Inv-loop μ-loop
 returns c = let a = c .before .args in sym (match-short (a .s .now) (a .at) (a .word .now) (c .before .pre) (c .if1 .taken))
@@ -25,29 +26,14 @@ returns c = let a = c .before .args in sym (match-short (a .s .now) (a .at) (a .
 loop-holds : tie.Need-loop-holds Inv-loop μ-loop
 loop-holds c = (omega arith, omega arith, λ k h. absurd (omega arith))
 
-add-if2 : tie.Need-add-if2 Inv-loop μ-loop
-add-if2 c = search needs
-
-shared-slice-read-if2 : tie.Need-shared-slice-read-if2 Inv-loop μ-loop
-shared-slice-read-if2 c = search needs
-
-shared-slice-read-if2-2 : tie.Need-shared-slice-read-if2-2 Inv-loop μ-loop
-shared-slice-read-if2-2 c = search needs
-
 returns-2 : tie.Need-returns-2 Inv-loop μ-loop
 returns-2 c =
-    let l = c .before .before .before .before in
+    let l = turn (c .before) in
     let a = l .before .before .args in sym (match-differs (a .s .now) (a .at) (a .word .now) (l .loop .i) (search needs) (c .if2 .taken))
-
-add-i : tie.Need-add-i Inv-loop μ-loop
-add-i c = search needs
-
-loop-less : tie.Need-loop-less Inv-loop μ-loop
-loop-less c = search needs
 
 loop-again : tie.Need-loop-again Inv-loop μ-loop
 loop-again c =
-    let l = c .before .before .before .before in (search needs, l .loop .inv .1, below-more _ _ (l .loop .inv .2) (c .if2 .left))
+    let l = turn (c .before) in (search needs, l .loop .inv .1, below-more _ _ (l .loop .inv .2) (c .if2 .left))
 
 returns-3 : tie.Need-returns-3 Inv-loop μ-loop
 returns-3 c =
@@ -61,14 +47,14 @@ matches-at-spec =
     (tie.spec
     Inv-loop
     μ-loop
-    sub-if1
+    (λ c. search needs)
     returns
     loop-holds
-    add-if2
-    shared-slice-read-if2
-    shared-slice-read-if2-2
+    (λ c. search needs)
+    (λ c. search needs)
+    (λ c. search needs)
     returns-2
-    add-i
-    loop-less
+    (λ c. search needs)
+    (λ c. search needs)
     loop-again
     returns-3)

@@ -10,12 +10,6 @@ use Rattle.segment_filename.specs.Digits.{signLength}
 use Rattle.segment_filename.proofs.sign_length.Statement.{statement}
 use Rattle.segment_filename.proofs.sign_length.Tie as tie
 
-slice-aggregate-matches-at : tie.Need-slice-aggregate-matches-at
-slice-aggregate-matches-at c = search needs
-
-matches-at-requires : tie.Need-matches-at-requires
-matches-at-requires c κs = search needs
-
 returns : tie.Need-returns
 unfolding signLength startsWith
 returns c =
@@ -30,4 +24,4 @@ returns-2 c =
 
 pub sign-length-spec : {M : Type 1} → statement M
 sign-length-spec =
-    tie.close (tie.spec slice-aggregate-matches-at matches-at-requires returns returns-2)
+    tie.close (tie.spec (λ c. search needs) (λ c κs. search needs) returns returns-2)

@@ -82,7 +82,10 @@ stayed = (
   gave-slice (0 ∷ []) tt (plain (λ _. u8)),
   (
     stay-dropped num yes,
-    (stay-dropped small yes, (stay-dropped num yes, (stay-dropped num yes, (stay-dropped bytes yes, tt)))),
+    (
+      stay-dropped small yes,
+      (stay-dropped num yes, (stay-dropped num yes, (stay-dropped num yes, (stay-dropped bytes yes, tt)))),
+    ),
   ),
 )
 
@@ -110,13 +113,13 @@ module _ {M : Type 1} (𝓤 : URA M) (H : Heap 𝓤) (A : Atoms 𝓤) (W : Given
 
 module _ {M : Type 1} (𝓤 : URA M) (H : Heap 𝓤) (A : Atoms 𝓤) (W : Given 𝓤 H A) (at-mem : Memory → SProp 𝓤) (run : Routine
     → Fun 𝓤) (κ₁ κ₂ : Lft) (q₁ q₂ : Share)
-    (area : RefT (List ℕ)) (cap slot size id : ℕ) (payload : RefT (List ℕ)) where
+    (area : RefT (List ℕ)) (c slot size room id : ℕ) (payload : RefT (List ℕ)) where
   -- the writer that is made
   abbrev h : SegmentWriter
   h = record { slot = slot; size = size }
 
-  abbrev a : RefT (List ℕ) × (ℕ × (ℕ × (ℕ × (ℕ × (RefT (List ℕ) × Unit {0})))))
-  a = (area, (cap, (slot, (size, (id, (payload, tt))))))
+  abbrev a : RefT (List ℕ) × (ℕ × (ℕ × (ℕ × (ℕ × (ℕ × (RefT (List ℕ) × Unit {0}))))))
+  a = (area, (c, (slot, (size, (room, (id, (payload, tt)))))))
 
   -- the machine values of the two slices, and of the arguments
   abbrev s : Val
@@ -125,8 +128,14 @@ module _ {M : Type 1} (𝓤 : URA M) (H : Heap 𝓤) (A : Atoms 𝓤) (W : Given
   abbrev p : Val
   p = sliceVal (payload .ptr) (length (payload .now))
 
-  abbrev vals : List Val × (List Val × (List Val × (List Val × (List Val × (List Val × Unit {0})))))
-  vals = (s ∷ [], (vint w64 cap ∷ [], (vint w32 slot ∷ [], (vint w64 size ∷ [], (vint w64 id ∷ [], (p ∷ [], tt))))))
+  abbrev vals : List Val × (List Val × (List Val × (List Val × (List Val × (List Val × (List Val × Unit {0}))))))
+  vals = (
+    s ∷ [],
+    (
+      vint w64 c ∷ [],
+      (vint w32 slot ∷ [], (vint w64 size ∷ [], (vint w64 room ∷ [], (vint w64 id ∷ [], (p ∷ [], tt))))),
+    ),
+  )
 
   abbrev bound : walkOf 𝓤 H A f.ended stayed (f.clauses 𝓤 H A at-mem run) .Ghost
   bound = (((κ₁, (κ₂, tt)), (q₁, (q₂, tt)), tt, a, vals), tt)
@@ -138,18 +147,18 @@ module _ {M : Type 1} (𝓤 : URA M) (H : Heap 𝓤) (A : Atoms 𝓤) (W : Given
   abbrev toks : Item 𝓤
   toks = ‵ (flft κ₁ q₁) ⊛ ‵ (flft κ₂ q₂) ⊛ ‵ ftrue
 
-  abbrev rest : RefT (List ℕ) × (ℕ × (ℕ × (RefT (List ℕ) × Unit {0})))
-  rest = (area, (cap, (id, (payload, tt))))
+  abbrev rest : RefT (List ℕ) × (ℕ × (ℕ × (ℕ × (RefT (List ℕ) × Unit {0}))))
+  rest = (area, (c, (room, (id, (payload, tt)))))
 
-  abbrev rest-vals : List Val × (List Val × (List Val × (List Val × Unit {0})))
-  rest-vals = (s ∷ [], (vint w64 cap ∷ [], (vint w64 id ∷ [], (p ∷ [], tt))))
+  abbrev rest-vals : List Val × (List Val × (List Val × (List Val × (List Val × Unit {0}))))
+  rest-vals = (s ∷ [], (vint w64 c ∷ [], (vint w64 room ∷ [], (vint w64 id ∷ [], (p ∷ [], tt)))))
 
   abbrev others : Fml
-  others = owns (MutSlice (named 0) κ₁ u8 ∷ u64 ∷ u64 ∷ ShrSlice (named 1) κ₂ u8 ∷ []) rest rest-vals
+  others = owns (MutSlice (named 0) κ₁ u8 ∷ u64 ∷ u64 ∷ u64 ∷ ShrSlice (named 1) κ₂ u8 ∷ []) rest rest-vals
 
   abbrev Says : SegmentWriter → List ℕ → Type 0
-  Says d zs = (d ≡ writtenBy h cap (length (payload .now)) (length (area .now))) ×
-      (zs ≡ areaAfter cap slot size id (payload .now) (area .now))
+  Says d zs = (d ≡ writtenBy h c room (length (payload .now)) (length (area .now))) ×
+      (zs ≡ areaAfter c slot size room id (payload .now) (area .now))
 
   -- what whoever holds a writer knows of its size
   size-is : (d : SegmentWriter) → Is R d (val d ∷ []) → d .size < 2 ^ 64
@@ -163,9 +172,10 @@ module _ {M : Type 1} (𝓤 : URA M) (H : Heap 𝓤) (A : Atoms 𝓤) (W : Given
   exits d zs is e l =
       qed W (toks ∷ ‵ (finally u8 (area .name) zs) ∷ []) ∵ suffices ! _
       (ends-at 𝓤 H A f.ended stayed (f.clauses 𝓤 H A at-mem run) W bound (vint w64 (d .size)) (d .size)
-      (zs, (tt, (tt, (tt, (tt, (tt, tt)))))) (l, (tt, (tt, (tt, (tt, (tt, tt))))))) $
+      (zs, (tt, (tt, (tt, (tt, (tt, (tt, tt))))))) (l, (tt, (tt, (tt, (tt, (tt, (tt, tt)))))))) $
       says ! (record { size-is = ap (λ (z : SegmentWriter). z .size) (e .0); area-is = e .1 }) $ frame ! $
       nothing ! $ nothing ! $ fjoin ! $ nothing ! $ fjoin ! $ nothing ! $ fjoin ! $ nothing ! $ fjoin ! $ nothing ! $ fjoin ! $
+      nothing ! $ fjoin ! $
       move ! (1 ∷ 0 ∷ []) $ fjoin ! $ frame ! $ owned ! u64 (Is u64) (uint-makes 𝓤 H A W w64) (d .size) _ (refl, size-is d is) $ done !
 
   -- the writer lent at the local l for the lifetime α under the name γ, and what the callee is passed
@@ -176,7 +186,7 @@ module _ {M : Type 1} (𝓤 : URA M) (H : Heap 𝓤) (A : Atoms 𝓤) (W : Given
     abbrev own-lent : Fml
     own-lent = MutRef (named 0) (α ∷ []) R .own lent (vptr l 0 ∷ [])
 
-    abbrev args : RefT SegmentWriter × (RefT (List ℕ) × (ℕ × (ℕ × (RefT (List ℕ) × Unit {0}))))
+    abbrev args : RefT SegmentWriter × (RefT (List ℕ) × (ℕ × (ℕ × (ℕ × (RefT (List ℕ) × Unit {0})))))
     args = (lent, rest)
 
     abbrev to : Callee 𝓤 H A at-mem run .Ghost
@@ -187,88 +197,95 @@ module _ {M : Type 1} (𝓤 : URA M) (H : Heap 𝓤) (A : Atoms 𝓤) (W : Given
         move ! (1 ∷ 0 ∷ []) $ join ! $ frame ! $ done !
 
   module _ (𝓣 : Tables 𝓤 H) (known : Triple 𝓤 (𝓣 .C #g) (Callee 𝓤 H A at-mem run)) where
-    walk : Room u8 (length (area .now)) → cap < 2 ^ 64 → slot < 2 ^ 32 → size < 2 ^ 64 → id < 2 ^ 64 → Room u8 (length (payload .now))
+    walk : Room u8 (length (area .now)) → c < 2 ^ 64 → slot < 2 ^ 32 → size < 2 ^ 64 → room < 2 ^ 64 → id < 2 ^ 64
+        → Room u8 (length (payload .now))
         → ent 𝓤 (onEntry 𝓤 H A f.signature (κ₁, (κ₂, tt)) (q₁, (q₂, tt)) a vals)
-        (WpFn 𝓤 H (𝓣 .C) (𝓣 .Λ) code.function (s ∷ vint w64 cap ∷ vint w32 slot ∷ vint w64 size ∷ vint w64 id ∷ p ∷ []) Post)
-    walk room cap-fits slot-fits size-fits id-fits room′ =
-        qed W (toks ∷ ‵ (owns (MutSlice (named 0) κ₁ u8 ∷ u64 ∷ u32 ∷ u64 ∷ u64 ∷ ShrSlice (named 1) κ₂ u8 ∷ []) a vals) ∷ []) ∵
-        enter ! (𝓣 .C) (𝓣 .Λ) code.function (s ∷ vint w64 cap ∷ vint w32 slot ∷ vint w64 size ∷ vint w64 id ∷ p ∷ []) _ $
+        (WpFn 𝓤 H (𝓣 .C) (𝓣 .Λ) code.function (s ∷ vint w64 c ∷ vint w32 slot ∷ vint w64 size ∷ vint w64 room ∷ vint w64 id ∷ p ∷ []) Post)
+    walk area-fits c-fits slot-fits size-fits room-fits id-fits payload-fits =
+        qed W (toks ∷ ‵ (owns (MutSlice (named 0) κ₁ u8 ∷ u64 ∷ u32 ∷ u64 ∷ u64 ∷ u64 ∷ ShrSlice (named 1) κ₂ u8 ∷ []) a vals) ∷ []) ∵
+        enter ! (𝓣 .C) (𝓣 .Λ) code.function (s ∷ vint w64 c ∷ vint w32 slot ∷ vint w64 size ∷ vint w64 room ∷ vint w64 id ∷ p ∷ []) _ $
         alloc1 ! (λ l₀. alloc1 ! (λ l₁. alloc1 ! (λ l₂. alloc1 !
         (λ l₃. alloc1 ! (λ l₄. alloc1 ! (λ l₅. alloc1 ! (λ l₆. alloc1 !
-        (λ l₇. alloc1 ! (λ l₈. alloc1 ! (λ l₉. alloc1 ! (λ l₁₀. alloc1 ! (λ l₁₁. alloc0 ! $ params1 ! $
-        pass1 ! (init ! 20 refl (tt, (tt, (record { fits = room .0 }, tt)))) $
-        pass1 ! (init ! 18 refl (tt, record { fits = cap-fits })) $ pass1 ! (init ! 16 refl (tt, record { fits = slot-fits })) $
-        pass1 ! (init ! 14 refl (tt, record { fits = size-fits })) $ pass1 ! (init ! 12 refl (tt, record { fits = id-fits })) $
-        pass1 ! (init ! 10 refl (tt, (tt, (record { fits = room′ .0 }, tt)))) $ pass0 ! $
-        -- [_11; …; _0; …; the tokens; what the arguments own]
-        assigns ! (agg ! (and-then ! (load ! (from ! (stop !)) (look ! 16 refl))
-        (and-then ! (load ! (from ! (stop !)) (look ! 14 refl)) (no-more !)))) (from ! (stop !))
+        (λ l₇. alloc1 ! (λ l₈. alloc1 ! (λ l₉. alloc1 ! (λ l₁₀. alloc1 ! (λ l₁₁. alloc1 ! (λ l₁₂. alloc0 ! $ params1 ! $
+        pass1 ! (init ! 22 refl (tt, (tt, (record { fits = area-fits .0 }, tt)))) $
+        pass1 ! (init ! 20 refl (tt, record { fits = c-fits })) $ pass1 ! (init ! 18 refl (tt, record { fits = slot-fits })) $
+        pass1 ! (init ! 16 refl (tt, record { fits = size-fits })) $ pass1 ! (init ! 14 refl (tt, record { fits = room-fits })) $
+        pass1 ! (init ! 12 refl (tt, record { fits = id-fits })) $
+        pass1 ! (init ! 10 refl (tt, (tt, (record { fits = payload-fits .0 }, tt)))) $ pass0 ! $
+        -- [_12; …; _0; …; the tokens; what the arguments own]
+        assigns ! (agg ! (and-then ! (load ! (from ! (stop !)) (look ! 18 refl))
+        (and-then ! (load ! (from ! (stop !)) (look ! 16 refl)) (no-more !)))) (from ! (stop !))
         (init ! 8 refl (LL.lawful T.the-type T′.the-laws 𝓤 H A W .typed h _ (made slot-fits size-fits) .0)) $
         assigns ! (addr ! (from ! (stop !))) (from ! (stop !)) (init ! 4 refl (tt, tt)) $
-        assigns ! (addr ! (from ! (fld ! refl (hop ! (look-in ! 20 (sub ! 0 refl (whole !))) (stop !))))) (from ! (stop !))
+        assigns ! (addr ! (from ! (fld ! refl (hop ! (look-in ! 22 (sub ! 0 refl (whole !))) (stop !))))) (from ! (stop !))
         (init ! 2 refl (tt, tt)) $
         assigns ! (agg ! (and-then ! (load ! (from ! (stop !)) (look ! 2 refl))
-        (and-then ! (load ! (from ! (fld ! refl (stop !))) (look-in ! 20 (sub ! 1 refl (whole !)))) (no-more !)))) (from ! (stop !))
-        (init ! 0 refl (tt, (tt, (record { fits = room .0 }, tt)))) $
-        -- _7 is lent, for a lifetime α that is made for the call
-        move ! (8 ∷ []) $ use1 W (‵ (mem R .lies h l₇ 0)) (lies-in 𝓤 H A W h l₇ (made slot-fits size-fits)) $
+        (and-then ! (load ! (from ! (fld ! refl (stop !))) (look-in ! 22 (sub ! 1 refl (whole !)))) (no-more !)))) (from ! (stop !))
+        (init ! 0 refl (tt, (tt, (record { fits = area-fits .0 }, tt)))) $
+        -- _8 is lent, for a lifetime α that is made for the call
+        move ! (8 ∷ []) $ use1 W (‵ (mem R .lies h l₈ 0)) (lies-in 𝓤 H A W h l₈ (made slot-fits size-fits)) $
         lft-new ! tt (λ α. move ! (1 ∷ []) $
-        use1 W (later (some (λ (γ : GName). ‵ (own-lent l₇ α γ) ⊛ ‵ (flent (α ∷ []) (Body (mem R) l₇ 0 γ)))))
-        (lends-ref 𝓤 H A W R (named 0) (α ∷ []) h l₇ 0) $ await ! tt $ pick ! (λ γ. split ! $
-        -- [the reference; the lender's part; α's token; _11; …; _8; …; that _7 dies; _6; …; _0; …; the tokens; what the arguments own]
-        move ! (27 ∷ []) $ fsplit ! $ move ! (1 ∷ []) $ fsplit ! $ move ! (1 ∷ []) $ fsplit ! $ drop ! $ fsplit ! $ drop ! $
+        use1 W (later (some (λ (γ : GName). ‵ (own-lent l₈ α γ) ⊛ ‵ (flent (α ∷ []) (Body (mem R) l₈ 0 γ)))))
+        (lends-ref 𝓤 H A W R (named 0) (α ∷ []) h l₈ 0) $ await ! tt $ pick ! (λ γ. split ! $
+        -- [the reference; the lender's part; α's token; _12; …; _9; …; that _8 dies; _7; …; _0; …; the tokens; what the arguments own]
+        move ! (29 ∷ []) $ fsplit ! $ move ! (1 ∷ []) $ fsplit ! $ move ! (1 ∷ []) $ fsplit ! $ drop ! $ fsplit ! $ drop ! $
         move ! (1 ∷ 0 ∷ []) $ fjoin ! $ move ! (1 ∷ 0 ∷ []) $ fjoin ! $
-        move ! (3 ∷ 27 ∷ []) $ join ! $ move ! (0 ∷ 2 ∷ 1 ∷ []) $ use3 W (raw (Callee 𝓤 H A at-mem run .pre (to l₇ α γ))) (goes l₇ α γ) $
-        -- [what the callee asks; the lender's part; _11; …; _8; …; that _7 dies; _6; …; _0; …]
-        calls-at ! (fmOf 𝓤 H (W .laws) 𝓣) (Callee 𝓤 H A at-mem run) known (to l₇ α γ)
+        move ! (3 ∷ 29 ∷ []) $ join ! $ move ! (0 ∷ 2 ∷ 1 ∷ []) $ use3 W (raw (Callee 𝓤 H A at-mem run .pre (to l₈ α γ))) (goes l₈ α γ) $
+        -- [what the callee asks; the lender's part; _12; …; _9; …; that _8 dies; _7; …; _0; …]
+        calls-at ! (fmOf 𝓤 H (W .laws) 𝓣) (Callee 𝓤 H A at-mem run) known (to l₈ α γ)
         (and-then ! (load ! (from ! (stop !)) (look ! 6 refl))
         (and-then ! (load ! (from ! (stop !)) (look ! 2 refl))
-        (and-then ! (load ! (from ! (stop !)) (look ! 19 refl))
-        (and-then ! (load ! (from ! (stop !)) (look ! 13 refl)) (and-then ! (load ! (from ! (stop !)) (look ! 11 refl)) (no-more !))))))
+        (and-then ! (load ! (from ! (stop !)) (look ! 21 refl))
+        (and-then ! (load ! (from ! (stop !)) (look ! 15 refl))
+        (and-then ! (load ! (from ! (stop !)) (look ! 13 refl)) (and-then ! (load ! (from ! (stop !)) (look ! 11 refl)) (no-more !)))))))
         (λ u.
         use1 W (later (some (λ (r : Unit {0}). ((‵ (flft (α ∷ []) fullShare) ⊛ toks) ⊛ ‵ (unit .own r (u ∷ []))) ⊛ raw
-        (ensured 𝓤 H A g.ended (g.clauses 𝓤 H A at-mem run) (α ∷ [], (κ₁, (κ₂, tt))) (args l₇ α γ) tt r)))) (id⊢ 𝓤 _) $ await ! tt $
+        (ensured 𝓤 H A g.ended (g.clauses 𝓤 H A at-mem run) (α ∷ [], (κ₁, (κ₂, tt))) (args l₈ α γ) tt r)))) (id⊢ 𝓤 _) $ await ! tt $
         pick ! (λ r.
-        split ! $ move ! (1 ∷ []) $ use1 W (some (λ (zs : Lasts g.ended (α ∷ [], (κ₁, (κ₂, tt))) (args l₇ α γ)). ‵
-        (lasts g.ended (α ∷ [], (κ₁, (κ₂, tt))) (args l₇ α γ) zs) ⊛ raw (fact 𝓤 (Says (zs .0) (zs .1 .0))))) (id⊢ 𝓤 _) $ pick ! (λ zs.
+        split ! $ move ! (1 ∷ []) $ use1 W (some (λ (zs : Lasts g.ended (α ∷ [], (κ₁, (κ₂, tt))) (args l₈ α γ)). ‵
+        (lasts g.ended (α ∷ [], (κ₁, (κ₂, tt))) (args l₈ α γ) zs) ⊛ raw (fact 𝓤 (Says (zs .0) (zs .1 .0))))) (id⊢ 𝓤 _) $ pick ! (λ zs.
         split ! $ move ! (1 ∷ []) $ heard ! (Says (zs .0) (zs .1 .0)) (λ e. fsplit ! $ move ! (1 ∷ []) $ fsplit ! $ fsplit ! $
         move ! (1 ∷ []) $ feqL ! (λ l.
-        -- [the area's last list; true; the writer's last value; the tokens and the result; the lender's part; _11; …]
+        -- [the area's last list; true; the writer's last value; the tokens and the result; the lender's part; _12; …]
         move ! (3 ∷ []) $ split ! $ move ! (1 ∷ []) $ peeks ! unit (Is unit) (shows 𝓤 H A unit) r (u ∷ []) (λ nil.
         land ! (from ! (stop !)) (init ! 12 refl (nothing-lawful 𝓤 H A W .typed r _ nil .0)) $
-        -- the lifetime is ended, and _7 is back at the writer's last value
+        -- the lifetime is ended, and _8 is back at the writer's last value
         move ! (1 ∷ []) $ split ! $ lft-end ! tt $ move ! (0 ∷ 6 ∷ 5 ∷ []) $
-        use3 W (later (‵ (mem R .lies (zs .0) l₇ 0))) (ref-back 𝓤 H A W R (α ∷ []) γ (zs .0) l₇ 0) $ await ! tt $
-        use1 W (given (Is R (zs .0) (val (zs .0) ∷ [])) (‵ (fat fullShare T′.mir l₇ 0 (val (zs .0))))) (lies-out 𝓤 H A W (zs .0) l₇) $
+        use3 W (later (‵ (mem R .lies (zs .0) l₈ 0))) (ref-back 𝓤 H A W R (α ∷ []) γ (zs .0) l₈ 0) $ await ! tt $
+        use1 W (given (Is R (zs .0) (val (zs .0) ∷ [])) (‵ (fat fullShare T′.mir l₈ 0 (val (zs .0))))) (lies-out 𝓤 H A W (zs .0) l₈) $
         learn ! (λ new.
-        -- [_7; the tokens; the result; the area's last list; true; _11; …; _8; …; that _7 dies; _6; …; _0; …]
+        -- [_8; the tokens; the result; the area's last list; true; _12; …; _9; …; that _8 dies; _7; …; _0; …]
         assigns ! (of-opd ! (load ! (from ! (fld ! refl (stop !))) (look-in ! 0 (sub ! 1 refl (whole !))))) (from ! (stop !))
-        (init ! 26 refl (tt, record { fits = size-is (zs .0) new })) $
-        returns ! (look ! 26 refl) $ forget ! 0 refl $ forget ! 5 refl $ forget ! 7 refl $ forget ! 9 refl $ forget ! 11 refl $
+        (init ! 28 refl (tt, record { fits = size-is (zs .0) new })) $
+        returns ! (look ! 28 refl) $ forget ! 0 refl $ forget ! 5 refl $ forget ! 7 refl $ forget ! 9 refl $ forget ! 11 refl $
         forget ! 14 refl $ forget ! 16 refl $ forget ! 18 refl $ forget ! 20 refl $ forget ! 22 refl $ forget ! 24 refl $ forget ! 26 refl $
-        move ! (26 ∷ 27 ∷ []) $ free1 ! $ move ! (24 ∷ 25 ∷ []) $ free1 ! $ move ! (22 ∷ 23 ∷ []) $ free1 ! $ move ! (20 ∷ 21 ∷ []) $
+        forget ! 28 refl $ move ! (28 ∷ 29 ∷ []) $ free1 ! $ move ! (26 ∷ 27 ∷ []) $ free1 ! $ move ! (24 ∷ 25 ∷ []) $ free1 ! $
+        move ! (22 ∷ 23 ∷ []) $ free1 ! $ move ! (20 ∷ 21 ∷ []) $
         free1 ! $ move ! (18 ∷ 19 ∷ []) $ free1 ! $ move ! (16 ∷ 17 ∷ []) $ free1 ! $ move ! (14 ∷ 15 ∷ []) $ free1 ! $
         move ! (0 ∷ 13 ∷ []) $ free1 ! $
         move ! (10 ∷ 11 ∷ []) $ free1 ! $ move ! (8 ∷ 9 ∷ []) $ free1 ! $ move ! (6 ∷ 7 ∷ []) $ free1 ! $ move ! (4 ∷ 5 ∷ []) $ free1 ! $
         free0 ! $
-        keep ! (0 ∷ 2 ∷ []) $ by ! (exits (zs .0) (zs .1 .0) new e l))))))))))))))))))))))
+        keep ! (0 ∷ 2 ∷ []) $ by ! (exits (zs .0) (zs .1 .0) new e l)))))))))))))))))))))))
 
 module _ {M : Type 1} (𝓤 : URA M) (H : Heap 𝓤) (A : Atoms 𝓤) (W : Given 𝓤 H A) (mem : Memory → SProp 𝓤) (run : Routine
     → Fun 𝓤) (𝓣 : Tables 𝓤 H) (known : Triple 𝓤 (𝓣 .C #g) (Callee 𝓤 H A mem run)) where
   walks : Walks 𝓤 H A f.ended stayed (WpFn 𝓤 H (𝓣 .C) (𝓣 .Λ) code.function) (f.clauses 𝓤 H A mem run)
   walks = walked 𝓤 H A f.ended stayed (f.clauses 𝓤 H A mem run) (WpFn 𝓤 H (𝓣 .C) (𝓣 .Λ) code.function)
-      (λ κs. (slice-vals, (uint-vals w64, (uint-vals w32, (uint-vals w64, (uint-vals w64, (slice-vals, tt)))))))
+      (λ κs. (slice-vals, (uint-vals w64, (uint-vals w32, (uint-vals w64, (uint-vals w64, (uint-vals w64, (slice-vals, tt))))))))
       (λ κs. (
         mut-slice-tells (named 0) (κs .0) u8,
         (
           uint-tells w64,
-          (uint-tells w32, (uint-tells w64, (uint-tells w64, (shr-slice-tells (named 1) (κs .1 .0) u8, tt)))),
+          (
+            uint-tells w32,
+            (uint-tells w64, (uint-tells w64, (uint-tells w64, (shr-slice-tells (named 1) (κs .1 .0) u8, tt)))),
+          ),
         ),
       ))
       (λ κs qs bounds a g are. via 𝓤 _ (fst∗ 𝓤 _ (emp 𝓤))
       (walk 𝓤 H A W mem run (κs .0) (κs .1 .0) (qs .0) (qs .1 .0) (a .0) (a .1 .0) (a .1 .1 .0) (a .1 .1 .1 .0) (a .1 .1 .1 .1 .0)
-      (a .1 .1 .1 .1 .1 .0) 𝓣 known (are .0 .0 .1) (are .1 .0 .1) (are .1 .1 .0 .1) (are .1 .1 .1 .0 .1) (are .1 .1 .1 .1 .0 .1)
-      (are .1 .1 .1 .1 .1 .0 .0 .1)))
+      (a .1 .1 .1 .1 .1 .0) (a .1 .1 .1 .1 .1 .1 .0) 𝓣 known (are .0 .0 .1) (are .1 .0 .1) (are .1 .1 .0 .1) (are .1 .1 .1 .0 .1)
+      (are .1 .1 .1 .1 .0 .1) (are .1 .1 .1 .1 .1 .0 .1) (are .1 .1 .1 .1 .1 .1 .0 .0 .1)))
 
   all-go : AllGo 𝓤 H A W 2 (f.signature .params) (f.ended .kept) stayed
   all-go = (
@@ -281,7 +298,10 @@ module _ {M : Type 1} (𝓤 : URA M) (H : Heap 𝓤) (A : Atoms 𝓤) (W : Given
           goes-dropped 𝓤 H A W 2 num yes (λ κs x f. refl),
           (
             goes-dropped 𝓤 H A W 2 num yes (λ κs x f. refl),
-            (goes-dropped 𝓤 H A W 2 bytes yes (λ κs x f. refl), tt),
+            (
+              goes-dropped 𝓤 H A W 2 num yes (λ κs x f. refl),
+              (goes-dropped 𝓤 H A W 2 bytes yes (λ κs x f. refl), tt),
+            ),
           ),
         ),
       ),

@@ -17,12 +17,6 @@ module _ (l w : List ℕ) (from to : ℕ) (e : w ≡ take to l) where
   part-there : take (length w - from) (drop from w) ≡ drop from (take to l)
   part-there = take-all (length w - from) (drop from w) (omega (arith, length-drop from w)) ∙ ap (drop from) e
 
-front-requires : tie.Need-front-requires
-front-requires c κs = search needs
-
-slice-aggregate-result : tie.Need-slice-aggregate-result
-slice-aggregate-result c = search needs
-
 returns : tie.Need-returns
 returns c =
     let a = c .before .before .before .before .args in
@@ -30,12 +24,6 @@ returns c =
 
 sub-result : tie.Need-sub-result
 sub-result c = search needs
-
-part-result-start : tie.Need-part-result-start
-part-result-start c = search needs
-
-part-result-end : tie.Need-part-result-end
-part-result-end c = search needs
 
 returns-2 : tie.Need-returns-2
 returns-2 c =
@@ -46,10 +34,10 @@ pub between-spec : {M : Type 1} → statement M
 between-spec =
     tie.close
     (tie.spec
-    front-requires
-    slice-aggregate-result
+    (λ c κs. search needs)
+    (λ c. search needs)
     returns
     sub-result
-    part-result-start
-    part-result-end
+    (λ c. search needs)
+    (λ c. search needs)
     returns-2)

@@ -13,8 +13,5 @@ returns c = let a = c .before .args in sym (take-all (a .n) (a .bytes .now) (ome
 slice-aggregate-result : tie.Need-slice-aggregate-result
 slice-aggregate-result c = let a = c .before .before .args in sym (length-take-le (a .n) (a .bytes .now) (omega arith))
 
-returns-2 : tie.Need-returns-2
-returns-2 c = search needs
-
 pub front-spec : {M : Type 1} → statement M
-front-spec = tie.close (tie.spec returns slice-aggregate-result returns-2)
+front-spec = tie.close (tie.spec returns slice-aggregate-result (λ c. search needs))

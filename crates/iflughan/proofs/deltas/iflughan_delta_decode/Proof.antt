@@ -5,18 +5,6 @@ use Rattle.iflughan.specs.Deltas.{decodedDelta}
 use Rattle.iflughan.proofs.deltas.iflughan_delta_decode.Statement.{statement}
 use Rattle.iflughan.proofs.deltas.iflughan_delta_decode.Tie as tie
 
-decode-requires : tie.Need-decode-requires
-decode-requires c κs = tt
-
-decoding-number-requires : tie.Need-decoding-number-requires
-decoding-number-requires c κs = tt
-
-decoding-consumed-requires : tie.Need-decoding-consumed-requires
-decoding-consumed-requires c κs = tt
-
-table-out-requires : tie.Need-table-out-requires
-table-out-requires c κs = tt
-
 returns : tie.Need-returns
 unfolding decodedDelta
 returns c =
@@ -34,8 +22,8 @@ pub iflughan-delta-decode-spec : {M : Type 1} → statement M
 iflughan-delta-decode-spec =
     tie.close
     (tie.spec
-    decode-requires
-    decoding-number-requires
-    decoding-consumed-requires
-    table-out-requires
+    (λ c κs. tt)
+    (λ c κs. tt)
+    (λ c κs. tt)
+    (λ c κs. tt)
     returns)

@@ -8,18 +8,6 @@ use Rattle.iflughan.specs.Deltas.{writtenDelta}
 use Rattle.iflughan.proofs.deltas.iflughan_delta_encode.Statement.{statement}
 use Rattle.iflughan.proofs.deltas.iflughan_delta_encode.Tie as tie
 
-table-in-requires : tie.Need-table-in-requires
-table-in-requires c κs = tt
-
-encode-requires : tie.Need-encode-requires
-encode-requires c κs = tt
-
-written-delta-requires : tie.Need-written-delta-requires
-written-delta-requires c κs = tt
-
-same-length : tie.Need-same-length
-same-length c = search needs
-
 returns : tie.Need-returns
 returns c =
     let e = c .before .before .before .encode in
@@ -34,4 +22,4 @@ returns c =
 pub iflughan-delta-encode-spec : {M : Type 1} → statement M
 iflughan-delta-encode-spec =
     tie.close
-    (tie.spec table-in-requires encode-requires written-delta-requires same-length returns)
+    (tie.spec (λ c κs. tt) (λ c κs. tt) (λ c κs. tt) (λ c. search needs) returns)

@@ -5,15 +5,9 @@ use Rattle.iflughan.specs.Deltas.{writtenDelta}
 use Rattle.iflughan.proofs.deltas.written_delta.Statement.{statement}
 use Rattle.iflughan.proofs.deltas.written_delta.Tie as tie
 
-encoded-number-requires : tie.Need-encoded-number-requires
-encoded-number-requires c κs = search needs
-
-encoded-length-requires : tie.Need-encoded-length-requires
-encoded-length-requires c κs = search needs
-
 returns : tie.Need-returns
 unfolding writtenDelta
 returns c = λ i. record { refusal = c .before .encoded-number .ensures i; reserved = 0; length = c .encoded-length .ensures i }
 
 pub written-delta-spec : {M : Type 1} → statement M
-written-delta-spec = tie.close (tie.spec encoded-number-requires encoded-length-requires returns)
+written-delta-spec = tie.close (tie.spec (λ c κs. search needs) (λ c κs. search needs) returns)

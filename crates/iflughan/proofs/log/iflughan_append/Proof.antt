@@ -6,19 +6,10 @@ use Rattle.iflughan.specs.Log.{appendedOut}
 use Rattle.iflughan.proofs.log.iflughan_append.Statement.{statement}
 use Rattle.iflughan.proofs.log.iflughan_append.Tie as tie
 
-append-requires : tie.Need-append-requires
-append-requires c κs = tt
-
-appended-out-requires : tie.Need-appended-out-requires
-appended-out-requires c κs = tt
-
-same-length : tie.Need-same-length
-same-length c = search needs
-
 returns : tie.Need-returns
 returns c =
     let call = c .before .before .before .append in (c .appended-out .ensures ∙ ap appendedOut (call .ensures .0), call .ensures .1)
 
 pub iflughan-append-spec : {M : Type 1} → statement M
 iflughan-append-spec =
-    tie.close (tie.spec append-requires appended-out-requires same-length returns)
+    tie.close (tie.spec (λ c κs. tt) (λ c κs. tt) (λ c. search needs) returns)

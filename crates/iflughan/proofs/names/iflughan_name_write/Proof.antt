@@ -6,19 +6,10 @@ use Rattle.iflughan.specs.Names.{writtenName}
 use Rattle.iflughan.proofs.names.iflughan_name_write.Statement.{statement}
 use Rattle.iflughan.proofs.names.iflughan_name_write.Tie as tie
 
-format-requires : tie.Need-format-requires
-format-requires c κs = tt
-
-written-name-requires : tie.Need-written-name-requires
-written-name-requires c κs = tt
-
-same-length : tie.Need-same-length
-same-length c = search needs
-
 returns : tie.Need-returns
 returns c =
     let f = c .before .before .before .format in (c .written-name .ensures ∙ ap writtenName (f .ensures .0), f .ensures .1)
 
 pub iflughan-name-write-spec : {M : Type 1} → statement M
 iflughan-name-write-spec =
-    tie.close (tie.spec format-requires written-name-requires same-length returns)
+    tie.close (tie.spec (λ c κs. tt) (λ c κs. tt) (λ c. search needs) returns)

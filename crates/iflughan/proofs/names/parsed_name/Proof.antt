@@ -5,15 +5,9 @@ use Rattle.iflughan.specs.Names.{parsedName}
 use Rattle.iflughan.proofs.names.parsed_name.Statement.{statement}
 use Rattle.iflughan.proofs.names.parsed_name.Tie as tie
 
-parsed-number-requires : tie.Need-parsed-number-requires
-parsed-number-requires c κs = search needs
-
-parsed-id-requires : tie.Need-parsed-id-requires
-parsed-id-requires c κs = search needs
-
 returns : tie.Need-returns
 unfolding parsedName
 returns c = λ i. record { refusal = c .before .parsed-number .ensures i; id = c .parsed-id .ensures i }
 
 pub parsed-name-spec : {M : Type 1} → statement M
-parsed-name-spec = tie.close (tie.spec parsed-number-requires parsed-id-requires returns)
+parsed-name-spec = tie.close (tie.spec (λ c κs. search needs) (λ c κs. search needs) returns)

@@ -5,15 +5,9 @@ use Rattle.iflughan.specs.Names.{writtenName}
 use Rattle.iflughan.proofs.names.written_name.Statement.{statement}
 use Rattle.iflughan.proofs.names.written_name.Tie as tie
 
-formatted-number-requires : tie.Need-formatted-number-requires
-formatted-number-requires c κs = search needs
-
-formatted-length-requires : tie.Need-formatted-length-requires
-formatted-length-requires c κs = search needs
-
 returns : tie.Need-returns
 unfolding writtenName
 returns c = λ i. record { refusal = c .before .formatted-number .ensures i; reserved = 0; length = c .formatted-length .ensures i }
 
 pub written-name-spec : {M : Type 1} → statement M
-written-name-spec = tie.close (tie.spec formatted-number-requires formatted-length-requires returns)
+written-name-spec = tie.close (tie.spec (λ c κs. search needs) (λ c κs. search needs) returns)

@@ -1,47 +1,42 @@
--- `recovery::kept::close` meets its contract: the last kept segment is closed in its entry, and zeros go behind its image.
+-- `recovery::kept::close` meets its contract: the last kept segment is closed in its entry, and its image is cut there.
 -- Assumes nothing.
-use mathlib.Core.Path.{_≡_, refl, sym, ap, _∙_}
+use mathlib.Core.Path.{ap}
 use mathlib.Core.List.{List}
-use Prim.Native.Nat.{ℕ, _+_, _-_, _*_, _≤_, _<_}
+use Prim.Native.Nat.{_-_, _≤_, _<_}
 use native.Mathlib.Omega.{arith}
-use lib.ListN.{length, getD, take, set, replicate, length-take}
+use lib.ListN.{length, take, length-take}
 use borrow.Author.Needs.{needs}
-use Rattle.lists.specs.Splice.{splice}
-use Rattle.seglog.specs.declared.Segment.{Segment}
-use Rattle.seglog.specs.Log.{noSegment, headOf}
+use Rattle.segment.specs.declared.Segment.{Segment}
 use Rattle.recovery.specs.Recovery.{keptOf}
-use Rattle.recovery.proofs.Keep.{kept-few, CloseRoom, close-room, close-did}
+use Rattle.recovery.proofs.Keep.{kept-few, close-did}
 use Rattle.recovery.proofs.kept.close.Statement.{statement}
 use Rattle.recovery.proofs.kept.close.Tie as tie
 
+-- where the function begins, and where the segments were kept
+abbrev start-of : tie.After-keep → tie.Start
+start-of c = c .before .before .before
+
+abbrev keep-of : tie.After-ended-at → tie.After-keep
+keep-of c = c .before .before .before .before .before .before .before
+
 -- the kept segments
 abbrev gs-of : tie.After-keep → List Segment
-gs-of c = let a = c .before .before .before .args in keptOf (a .s) (a .e) (take (a .count) (a .found .segs))
+gs-of c = let a = start-of c .args in keptOf (a .s) (a .e) (take (a .count) (a .found .segs))
 
 -- there are 64 of them at most
 few : (c : tie.After-keep) → length (gs-of c) ≤ 64
 few c =
-    let a = c .before .before .before .args in
-    let pre = c .before .before .before .pre in
+    let a = start-of c .args in
+    let pre = start-of c .pre in
     omega (arith, kept-few (a .s) (a .e) (take (a .count) (a .found .segs)), length-take (a .count) (a .found .segs), pre .few)
 
 -- there is one
 some : (c : tie.After-keep) → 0 < length (gs-of c)
-some c = c .before .before .before .pre .some
-
--- what is known of the last one's place
-room : (c : tie.After-keep)
-    → let a = c .before .before .before .args in
-    CloseRoom (a .k) (a .c) (a .m) (a .s) (a .e) (a .count) (a .found) (gs-of c) (c .keep .result) (c .keep .ensures)
-    (c .before .before .before .pre)
-room c = close-room _ _ _ _ _ _ _ _ _ (c .keep .ensures) (c .before .before .before .pre)
+some c = start-of c .pre .some
 
 -- the last one's index
 at-few : (c : tie.After-keep) → c .keep .result .count - 1 < 64
 at-few c = omega (arith, ap (λ q. q .count) (c .keep .ensures), few c, some c)
-
-keep-requires : tie.Need-keep-requires
-keep-requires c κs = search needs
 
 sub-at : tie.Need-sub-at
 sub-at c = omega (arith, ap (λ q. q .count) (c .keep .ensures), some c)
@@ -52,58 +47,38 @@ mul-head c = record { fits = omega (arith, at-few c) }
 element-copy-out-head : tie.Need-element-copy-out-head
 element-copy-out-head c = at-few c
 
-cast-from : tie.Need-cast-from
-cast-from c = search needs
-
-mul-from : tie.Need-mul-from
-mul-from c = let r = room (c .before .before) in search needs
-
-add-zero-fill : tie.Need-add-zero-fill
-add-zero-fill c = let r = room (c .before .before .before .before) in search needs
-
-add-zero-fill-2 : tie.Need-add-zero-fill-2
-add-zero-fill-2 c = let r = room (c .before .before .before .before) in search needs
-
-zero-fill-requires : tie.Need-zero-fill-requires
-zero-fill-requires c κs = search needs
-
-closed-requires : tie.Need-closed-requires
-closed-requires c κs = search needs
-
 mul-segs : tie.Need-mul-segs
-mul-segs c = record { fits = omega (arith, at-few (c .before .before .before .before .before .before .before .before .before)) }
+mul-segs c = record { fits = omega (arith, at-few (keep-of c)) }
 
 array-set-from-segs : tie.Need-array-set-from-segs
-array-set-from-segs c = at-few (c .before .before .before .before .before .before .before .before .before)
+array-set-from-segs c = at-few (keep-of c)
 
-add-t27 : tie.Need-add-t27
-add-t27 c = search needs
+sub-t27 : tie.Need-sub-t27
+sub-t27 c = start-of (keep-of c) .pre .range .order
 
-same-length : tie.Need-same-length
-same-length c = search needs
+add-t28 : tie.Need-add-t28
+add-t28 c = let p = start-of (keep-of c) .pre .range in search needs
 
 returns : tie.Need-returns
 returns c =
-    let k = c .before .before .before .before .before .before .before .before .before in
-    close-did _ _ _ _ _ _ _ (gs-of k) _ (k .keep .ensures) (k .before .before .before .pre) _ _ _ (c .closed .ensures)
-    (c .before .before .before .before .zero-fill .ensures)
+    let k = keep-of c in
+    close-did _ _ _ _ _ _ _ _ (gs-of k) _ (k .keep .ensures) (start-of k .pre) _ _ (c .ended-at .ensures)
+    (c .before .before .before .before .truncate .ensures)
 
 pub close-spec : {M : Type 1} → statement M
 close-spec =
     tie.close
     (tie.spec
-    keep-requires
+    (λ c κs. search needs)
     sub-at
     mul-head
     element-copy-out-head
-    cast-from
-    mul-from
-    add-zero-fill
-    add-zero-fill-2
-    zero-fill-requires
-    closed-requires
+    (λ c κs. search needs)
+    (λ c κs. search needs)
     mul-segs
     array-set-from-segs
-    add-t27
-    same-length
+    (λ c. search needs)
+    sub-t27
+    add-t28
+    (λ c. search needs)
     returns)

@@ -5,15 +5,9 @@ use Rattle.recovery.specs.Recovery.{holdsLive}
 use Rattle.recovery.proofs.kept.holds_live.Statement.{statement}
 use Rattle.recovery.proofs.kept.holds_live.Tie as tie
 
-at-most-requires : tie.Need-at-most-requires
-at-most-requires c κs = search needs
-
-at-most-requires-2 : tie.Need-at-most-requires-2
-at-most-requires-2 c κs = search needs
-
 returns : tie.Need-returns
 unfolding holdsLive
 returns c = cc
 
 pub holds-live-spec : {M : Type 1} → statement M
-holds-live-spec = tie.close (tie.spec at-most-requires at-most-requires-2 returns)
+holds-live-spec = tie.close (tie.spec (λ c κs. search needs) (λ c κs. search needs) returns)

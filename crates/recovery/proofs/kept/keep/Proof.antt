@@ -8,12 +8,6 @@ use borrow.Author.Needs.{needs}
 use Rattle.recovery.proofs.Keep.{AtKeep, keep-start, keep-turn, keep-end}
 use Rattle.recovery.proofs.kept.keep.Statement.{statement}
 use Rattle.recovery.proofs.kept.keep.Tie as tie
-use Rattle.recovery.proofs.kept.keep.Reads as reads
-use Rattle.recovery.proofs.kept.keep.Lts as lts
-use Rattle.recovery.proofs.kept.count_if.Reads as count-if-reads
-use Rattle.recovery.proofs.kept.holds_live.Reads as holds-live-reads
-use Rattle.recovery.proofs.kept.no_segment.Reads as no-segment-reads
-use Rattle.recovery.proofs.kept.segment_if.Reads as segment-if-reads
 
 abbrev Inv-loop : tie.InvT-loop
 Inv-loop s e count segs kept₀ n₀ i₀ kept n i =
@@ -22,39 +16,9 @@ Inv-loop s e count segs kept₀ n₀ i₀ kept n i =
 abbrev μ-loop : tie.MeasureT-loop
 μ-loop s e count segs kept₀ n₀ i₀ kept n i = count - i
 
-no-segment-requires : tie.Need-no-segment-requires Inv-loop μ-loop
-no-segment-requires c κs = search needs
-
 loop-holds : tie.Need-loop-holds Inv-loop μ-loop
 loop-holds c =
     (omega arith, c .before .pre, omega arith, search needs, refl, keep-start _ _ _ _ (c .no-segment .ensures))
-
-mul-g : tie.Need-mul-g Inv-loop μ-loop
-mul-g c = search needs
-
-array-copy-out-g : tie.Need-array-copy-out-g Inv-loop μ-loop
-array-copy-out-g c = search needs
-
-holds-live-requires : tie.Need-holds-live-requires Inv-loop μ-loop
-holds-live-requires c κs = search needs
-
-segment-if-requires : tie.Need-segment-if-requires Inv-loop μ-loop
-segment-if-requires c κs = search needs
-
-mul-kept : tie.Need-mul-kept Inv-loop μ-loop
-mul-kept c = search needs
-
-array-set-from-kept : tie.Need-array-set-from-kept Inv-loop μ-loop
-array-set-from-kept c = search needs
-
-count-if-requires : tie.Need-count-if-requires Inv-loop μ-loop
-count-if-requires c κs = search needs
-
-add-i : tie.Need-add-i Inv-loop μ-loop
-add-i c = search needs
-
-loop-less : tie.Need-loop-less Inv-loop μ-loop
-loop-less c = search needs
 
 loop-again : tie.Need-loop-again Inv-loop μ-loop
 loop-again c =
@@ -82,16 +46,16 @@ keep-spec =
     (tie.spec
     Inv-loop
     μ-loop
-    no-segment-requires
+    (λ c κs. search needs)
     loop-holds
-    mul-g
-    array-copy-out-g
-    holds-live-requires
-    segment-if-requires
-    mul-kept
-    array-set-from-kept
-    count-if-requires
-    add-i
-    loop-less
+    (λ c. search needs)
+    (λ c. search needs)
+    (λ c κs. search needs)
+    (λ c κs. search needs)
+    (λ c. search needs)
+    (λ c. search needs)
+    (λ c κs. search needs)
+    (λ c. search needs)
+    (λ c. search needs)
     loop-again
     returns)

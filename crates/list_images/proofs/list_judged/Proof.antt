@@ -1,0 +1,45 @@
+-- `list_images::list_judged`: the images' part of the area has its room.
+-- Assumes nothing.
+use mathlib.Core.Path.{sym}
+use native.Mathlib.Omega.{arith}
+use lib.Seq.{length-take-le}
+use borrow.Author.Needs.{needs}
+use Rattle.list_images.proofs.list_judged.Statement.{statement}
+use Rattle.list_images.proofs.list_judged.Tie as tie
+
+slice-aggregate-used : tie.Need-slice-aggregate-used
+slice-aggregate-used c =
+    let asked = c .before .before in
+    let start = asked .before .before .before .before .before in
+    sym (length-take-le (asked .room .result) (start .args .area .now) (omega arith))
+
+pub list-judged-spec : {M : Type 1} → statement M
+list-judged-spec =
+    tie.close
+    (tie.spec
+    (λ c κs. search needs)
+    (λ c κs. search needs)
+    (λ c. search needs)
+    (λ c κs. search needs)
+    (λ c. search needs)
+    (λ c. search needs)
+    slice-aggregate-used
+    (λ c κs. search needs)
+    (λ c. search needs)
+    (λ c κs. search needs)
+    (λ c. search needs)
+    (λ c. search needs)
+    (λ c κs. search needs)
+    (λ c. search needs)
+    (λ c. search needs)
+    (λ c κs. search needs)
+    (λ c. search needs)
+    (λ c κs. search needs)
+    (λ c. search needs)
+    (λ c. search needs)
+    (λ c κs. search needs)
+    (λ c. search needs)
+    (λ c. search needs)
+    (λ c κs. search needs)
+    (λ c. search needs)
+    (λ c. search needs))

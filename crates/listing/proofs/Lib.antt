@@ -1,0 +1,3 @@
+pub mod Images
+pub mod Lines
+pub mod Unique

@@ -1,0 +1,4 @@
+pub mod Judging
+pub mod Walk
+pub mod Headers
+pub mod Records
