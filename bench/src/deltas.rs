@@ -1,6 +1,6 @@
 //! Decoding and encoding of deltas, outputs compared. The original builds a hash map and copies each value.
 
-use crate::ffi;
+use crate::calls;
 use crate::original;
 use crate::timing::{compare, per_call};
 use std::hint::black_box;
@@ -21,7 +21,7 @@ const CASES: [(usize, usize); 6] = [(16, 0), (16, 40), (16, 4000), (256, 0), (25
 pub fn decode(rounds: usize) {
     for (keys, value) in CASES {
         let bytes = original::delta_encode(priors(keys, value));
-        let ours = ffi::delta_decode(&bytes);
+        let ours = calls::delta_decode(&bytes);
         let (theirs, consumed) = original::delta_decode(&bytes).expect("a delta");
         assert_eq!((ours.refusal, ours.consumed, ours.table.count), (0, consumed, theirs.len() as u64));
         for row in &ours.table.rows[..keys] {
@@ -29,7 +29,7 @@ pub fn decode(rounds: usize) {
             assert_eq!(theirs[&row.key].as_deref(), Some(held));
         }
         let calls = if keys * value > 100_000 { 20 } else { 200 };
-        let run_ours = || per_call(calls, || assert_eq!(black_box(ffi::delta_decode(black_box(&bytes))).refusal, 0));
+        let run_ours = || per_call(calls, || assert_eq!(black_box(calls::delta_decode(black_box(&bytes))).refusal, 0));
         let run_theirs = || per_call(calls, || drop(black_box(original::delta_decode(black_box(&bytes)))));
         compare(
             "decode",
@@ -43,13 +43,13 @@ pub fn decode(rounds: usize) {
 pub fn encode(rounds: usize) {
     for (keys, value) in CASES {
         let bytes = original::delta_encode(priors(keys, value));
-        let table = ffi::delta_decode(&bytes).table;
+        let table = calls::delta_decode(&bytes).table;
         let mut out = vec![0u8; bytes.len()];
-        assert_eq!(ffi::delta_encode(&table, &bytes, &mut out).length, bytes.len() as u64);
+        assert_eq!(calls::delta_encode(&table, &bytes, &mut out).length, bytes.len() as u64);
         assert_eq!(original::delta_decode(&out).expect("a delta").0, priors(keys, value));
         let delta = original::Delta { priors: priors(keys, value) };
         let calls = if keys * value > 100_000 { 20 } else { 200 };
-        let run_ours = || per_call(calls, || assert_eq!(black_box(ffi::delta_encode(black_box(&table), &bytes, &mut out)).refusal, 0));
+        let run_ours = || per_call(calls, || assert_eq!(black_box(calls::delta_encode(black_box(&table), &bytes, &mut out)).refusal, 0));
         let run_theirs = || per_call(calls, || drop(black_box(original::encoded(&delta))));
         compare(
             "encode",

@@ -1,6 +1,7 @@
 //! Append, prune recent and recovery.
 
-use crate::ffi::{self, Image, Log, Shape};
+use crate::calls::{self, Shape};
+use crate::ffi::{Image, Log};
 use crate::limit;
 use crate::original::seglog::{self, RecordId, SegmentedLog};
 use crate::timing::{compare, per_call};
@@ -34,9 +35,9 @@ impl Drop for Folder {
 }
 
 fn grow(shape: Shape, area: &mut [u8], records: usize, payload: &[u8]) -> Log {
-    let mut log = ffi::new(shape, area).log;
+    let mut log = calls::new(shape, area).log;
     for _ in 0..records {
-        let appended = ffi::append(&log, area, payload);
+        let appended = calls::append(&log, area, payload);
         assert_eq!(appended.refusal, 0);
         log = appended.log;
     }
@@ -61,7 +62,7 @@ pub fn append(rounds: usize) {
             let ours = || {
                 let mut log = start;
                 per_call(calls, || {
-                    let appended = ffi::append(&log, &mut area, black_box(&payload));
+                    let appended = calls::append(&log, &mut area, black_box(&payload));
                     assert_eq!(appended.refusal, 0);
                     log = appended.log;
                 })
@@ -104,7 +105,7 @@ pub fn prune_recent(rounds: usize) {
             original.append(b"abc").expect("an append");
         }
         let calls = (200_000 / n) as u32;
-        let ours = || per_call(calls, || assert_eq!(black_box(ffi::prune_recent(&log, &mut area, n as u64)).refusal, 0));
+        let ours = || per_call(calls, || assert_eq!(black_box(calls::prune_recent(&log, &mut area, n as u64)).refusal, 0));
         let bare = || per_call(calls, || assert_ne!(black_box(limit::walk(black_box(&plain))), 0));
         let theirs = || per_call(20, || original.prune_recent(RecordId(n as u64)).expect("a prune"));
         compare(
@@ -136,7 +137,7 @@ pub fn recover(rounds: usize) {
         }
         drop(original);
         let calls = (64 / k).max(1) as u32 * 4;
-        let ours = || per_call(calls, || assert_eq!(black_box(ffi::recover(shape, &mut area, &rows, 1, last, &mut index)).refusal, 0));
+        let ours = || per_call(calls, || assert_eq!(black_box(calls::recover(shape, &mut area, &rows, 1, last, &mut index)).refusal, 0));
         let bare = || {
             per_call(calls, || {
                 for slot in 0..k {

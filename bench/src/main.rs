@@ -1,9 +1,13 @@
 //! Times append, prune recent, recovery, decode and encode: ours, the plain limit, and the original on a memory-backed folder.
 //! The three are run in turns in one process; the best and the median of the rounds are printed, in nanoseconds for one call.
 
-#[allow(dead_code, unused_imports)]
-#[path = "../../oracle/src/ffi.rs"]
+#[path = "../../oracle/src/calls.rs"]
+mod calls;
+#[allow(dead_code)]
+#[path = "../../bindings/rust/src/ffi.rs"]
 mod ffi;
+#[path = "../../oracle/src/lent.rs"]
+mod lent;
 #[allow(dead_code)]
 #[path = "../../oracle/src/original.rs"]
 mod original;

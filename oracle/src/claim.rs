@@ -4,7 +4,7 @@
 use std::process::Command;
 use std::time::Instant;
 
-use crate::{ffi, original};
+use crate::{calls, original};
 
 /// No erased key, one reinstated: key of zeros, value length 2^32 - 1, no value byte.
 fn claiming_input() -> [u8; 44] {
@@ -31,7 +31,7 @@ pub fn child(side: &str) {
     let started = Instant::now();
     let refusal = match side {
         "original" => original::delta_decode(&input).err().unwrap_or(0),
-        _ => ffi::delta_decode(&input).refusal,
+        _ => calls::delta_decode(&input).refusal,
     };
     let seconds = started.elapsed().as_secs_f64();
     println!("refusal {}, {:.6} s, peak memory {}", refusal, seconds, peak_memory());

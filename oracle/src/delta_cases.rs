@@ -6,6 +6,8 @@ use crate::rng::Rng;
 use std::collections::BTreeSet;
 
 const COUNT_BORDERS: [u64; 12] = [0, 1, 2, 254, 255, 256, 257, 258, 1 << 16, 1 << 31, (1 << 32) - 2, (1 << 32) - 1];
+/// Around the end of 16 bits, and far above: lengths, and offsets of the values behind them.
+const LONG_VALUES: [u64; 5] = [65_535, 65_536, 65_537, 100_000, 140_000];
 const TOTAL_BORDERS: [u64; 5] = [254, 255, 256, 257, 258];
 
 /// A delta in the making: its rows in some order, and the bytes that their values lie in.
@@ -27,6 +29,7 @@ impl Draft {
 
     fn add_value(&mut self, rng: &mut Rng) -> (usize, usize) {
         let length = match rng.below(40) {
+            0 if rng.once_in(60) => rng.pick_number(&LONG_VALUES),
             0 => rng.below(4000),
             1..=9 => 0,
             _ => rng.below(40),

@@ -1,15 +1,18 @@
 //! Deltas: both sides decode the same inputs and encode the same tables.
 //! Compared: acceptance, number of the refusal, keys, marks, values, bytes consumed, bytes written and those that must stay.
 
+use crate::calls::{NO_DELTA, NO_ROW, NO_WRITTEN};
+use crate::causes;
 use crate::delta_cases::{draft, input, usual_draft};
 use crate::delta_model::{decode, has_duplicate, sorted, Row};
 use crate::departures::{CLAIMED_LENGTH, DELTA_BUFFER, GROUP_ORDER, KEY_LIMIT, TABLE_DUPLICATE, VALUE_PLACE};
-use crate::ffi::{Delta, DeltaRow, Written};
+use crate::ffi::{Decoded, Delta, DeltaRow, Written};
 use crate::lent::Lent;
 use crate::original::Priors;
 use crate::rng::Rng;
 use crate::table::{hex, Table};
-use crate::{ffi, original};
+use crate::{calls, original};
+use std::collections::HashMap;
 
 const LIMIT: u64 = 256;
 /// The original is not run on inputs that make it ask for more than this.
@@ -44,9 +47,9 @@ pub fn priors(rows: &[Row], values: &[u8]) -> Priors {
 fn compare_decode(table: &mut Table, input: &[u8]) {
     table.cases += 1;
     let lent = Lent::new(input, 0xA5);
-    let ours = ffi::delta_decode(lent.content());
+    let ours = calls::delta_decode(lent.content());
     let model = decode(input, LIMIT);
-    if !answers(&ours, &model.outcome) || lent.content() != input || !lent.guards_intact() {
+    if !answers(&ours, &model.outcome) || !lent.unchanged(input) {
         let answer = (ours.refusal, ours.consumed, ours.table.count);
         return table.differs(input.len(), || {
             format!("  decode {}: (refusal, consumed, count) {:?}, document 01 {:?}", hex(input), answer, model.outcome)
@@ -54,12 +57,14 @@ fn compare_decode(table: &mut Table, input: &[u8]) {
     }
     let number = model.outcome.as_ref().err().copied().unwrap_or(0);
     let largest_claim = if number == 41 { decode(input, u64::MAX).largest_claim } else { model.largest_claim };
-    if largest_claim > LARGEST_CLAIM {
+    if largest_claim > LARGEST_CLAIM && (number != 41 || causes::keys_claimed(input) > LIMIT) {
         return table.departs(&format!("decode: {}, rust not run: claims over 1 MiB", number), &CLAIMED_LENGTH);
     }
     match (&model.outcome, original::delta_decode(input)) {
-        (Err(41), Ok(_)) => table.departs("decode: 41, the Rust accepts", &KEY_LIMIT),
-        (Err(41), Err(number)) => table.departs(&format!("decode: 41, the Rust refuses with {}", number), &KEY_LIMIT),
+        (Err(41), Ok((map, _))) if map.len() as u64 > LIMIT => table.departs("decode: 41, the Rust accepts", &KEY_LIMIT),
+        (Err(41), Err(number)) if causes::keys_claimed(input) > LIMIT => {
+            table.departs(&format!("decode: 41, the Rust refuses with {}", number), &KEY_LIMIT)
+        }
         (Err(number), Err(originals)) if *number == originals => table.alike(&format!("decode: {}", number)),
         (Ok((rows, consumed)), Ok((map, position))) if map == priors(rows, input) && position == *consumed as u64 => {
             table.alike(if *consumed < input.len() { "decode: accepted, bytes follow" } else { "decode: accepted" })
@@ -71,19 +76,19 @@ fn compare_decode(table: &mut Table, input: &[u8]) {
 }
 
 /// Whether a decoded answer is the one expected, all 256 rows of it.
-fn answers(ours: &ffi::Decoded, expected: &Result<(Vec<Row>, usize), u32>) -> bool {
+fn answers(ours: &Decoded, expected: &Result<(Vec<Row>, usize), u32>) -> bool {
     let (refusal, consumed, rows) = match expected {
         Ok((rows, consumed)) => (0, *consumed as u64, &rows[..]),
         Err(number) => (*number, 0, &[][..]),
     };
     let expected_rows = rows.iter().map(|row| {
         let (offset, length) = row.value.unwrap_or((0, 0));
-        DeltaRow { key: row.key, present: row.value.is_some() as u8, offset: offset as u64, length: length as u32, ..Default::default() }
+        DeltaRow { key: row.key, present: row.value.is_some() as u8, offset: offset as u64, length: length as u32, ..NO_ROW }
     });
     (ours.refusal, ours.reserved) == (refusal, 0)
         && ours.consumed == consumed
         && ours.table.count == rows.len() as u64
-        && expected_rows.chain(std::iter::repeat(DeltaRow::default())).zip(&ours.table.rows).all(|(row, our)| row == *our)
+        && expected_rows.chain(std::iter::repeat(NO_ROW)).zip(&ours.table.rows).all(|(row, our)| row == *our)
 }
 
 /// A table to encode, the slice its values lie in and the length of the output.
@@ -113,6 +118,11 @@ impl EncodeCase {
         Ok(rows)
     }
 
+    /// How many keys the original's map would hold.
+    fn map_size(&self) -> usize {
+        self.table.rows[..self.table.count as usize].iter().map(|row| (row.key, ())).collect::<HashMap<_, _>>().len()
+    }
+
     fn compare(&self, table: &mut Table) {
         table.cases += 1;
         let rows = self.rows();
@@ -130,14 +140,15 @@ impl EncodeCase {
         let length = if refusal == 0 { expected.len() } else { 0 };
         let before: Vec<u8> = (0..self.out_length).map(|at| at as u8 ^ 0x5A).collect();
         let (values, mut out) = (Lent::new(&self.values, 0xA5), Lent::new(&before, 0xA5));
-        let answer = ffi::delta_encode(&self.table, values.content(), out.content_mut());
-        let stays = values.content() == &self.values[..] && values.guards_intact() && out.guards_intact();
+        let answer = calls::delta_encode(&self.table, values.content(), out.content_mut());
+        let stays = values.unchanged(&self.values) && out.guards_intact();
         let written = out.content()[..length] == expected[..length] && out.content()[length..] == before[length..];
-        if answer != (Written { refusal, length: length as u64, ..Default::default() }) || !stays || !written {
+        if answer != (Written { refusal, length: length as u64, ..NO_WRITTEN }) || !stays || !written {
             return self.differs(table, format!("{:?}, expected {} and {} bytes", answer, refusal, length));
         }
         match refusal {
-            42 => table.departs("encode: 42, not to be had in the Rust", &TABLE_DUPLICATE),
+            42 if self.map_size() < self.table.count as usize => table.departs("encode: 42, not to be had in the Rust", &TABLE_DUPLICATE),
+            42 => self.differs(table, "42, and the Rust's map has a place for each row".to_string()),
             43 if self.table.count > LIMIT => table.departs("encode: 43, over 256 rows", &KEY_LIMIT),
             43 => table.departs("encode: 43, a value outside its slice", &VALUE_PLACE),
             44 => table.departs("encode: 44, the Rust makes its own vector", &DELTA_BUFFER),
@@ -148,7 +159,7 @@ impl EncodeCase {
     /// Each side decodes what the other wrote, to the same map.
     fn compare_decoded(&self, table: &mut Table, ours: &[u8], originals: &[u8]) {
         let map = |delta: &[u8]| original::delta_decode(delta).map(|(map, position)| (map, position));
-        let crossed = ffi::delta_decode(originals);
+        let crossed = calls::delta_decode(originals);
         if map(ours) != map(originals) || !answers(&crossed, &decode(originals, LIMIT).outcome) {
             return self.differs(table, "decoded by the other side, it is another map".to_string());
         }
@@ -181,14 +192,12 @@ fn encode_case(rng: &mut Rng) -> EncodeCase {
     let mut draft = if over_limit { draft(rng, LIMIT as usize, 50) } else { usual_draft(rng) };
     draft.rows.truncate(LIMIT as usize);
     let encoded_length = draft.bytes().len();
-    let mut table = Delta { count: draft.rows.len() as u64, rows: [DeltaRow::default(); 256] };
+    let mut table = Delta { count: draft.rows.len() as u64, ..NO_DELTA };
     for (place, row) in table.rows.iter_mut().enumerate() {
         *row = match draft.rows.get(place) {
             Some(row) => exported_row(rng, row),
-            None if rng.once_in(2) => DeltaRow::default(),
-            None => {
-                DeltaRow { key: [rng.next() as u8; 32], present: 1, offset: rng.next(), length: rng.next() as u32, ..Default::default() }
-            }
+            None if rng.once_in(2) => NO_ROW,
+            None => DeltaRow { key: [rng.next() as u8; 32], present: 1, offset: rng.next(), length: rng.next() as u32, ..NO_ROW },
         };
     }
     let (values, count) = (draft.values, table.count);

@@ -1,17 +1,48 @@
 //! Inputs for the comparison of logs: shapes, payload lengths, segment images and every kind of damage to them.
 //! A set of images is what a folder holds: an id and the bytes of each segment.
 
-use crate::ffi::Shape;
+use crate::calls::Shape;
 use crate::log_model::{padded, record_places};
 use crate::rng::Rng;
 
 const PAGE: u64 = 4096;
 const GIBIBYTE: u64 = 1 << 30;
+/// Around the end of 16 bits, and above.
+const LONG_PAYLOADS: [u64; 6] = [65_523, 65_524, 65_535, 65_536, 65_537, 100 << 10];
+/// Where ids of 16, 31, 32, 63 and 64 bits end.
+const ID_BORDERS: [u64; 5] = [1 << 16, 1 << 31, 1 << 32, 1 << 63, 0];
 
 #[derive(Clone, Debug)]
 pub struct SegmentFile {
     pub id: u32,
     pub bytes: Vec<u8>,
+}
+
+/// A history's shape, and how many appends of small records it begins with.
+pub struct Setting {
+    pub shape: Shape,
+    pub first_appends: u64,
+}
+
+/// Now and then all 64 slots, taken one after the other; or slots in which offsets and lengths pass 16 bits, with many records.
+pub fn setting(rng: &mut Rng) -> Setting {
+    match rng.below(300) {
+        0 => {
+            let c = PAGE * rng.range(1, 2);
+            let shape = Shape { k: rng.pick_number(&[64, 64, 63, 33]), c, m: rng.pick_number(&[0, 1, c]) };
+            Setting { shape, first_appends: rng.range(30, 140) }
+        }
+        1 | 2 => {
+            let c = PAGE * rng.pick_number(&[64, 128, 512]);
+            let shape = Shape { k: rng.range(2, 3), c, m: rng.pick_number(&[c, c / 2, 65_536]) };
+            Setting { shape, first_appends: rng.pick_number(&[0, 0, 20, 90]) }
+        }
+        _ => Setting { shape: shape(rng), first_appends: 0 },
+    }
+}
+
+pub fn small_length(rng: &mut Rng) -> u64 {
+    rng.pick_number(&[0, 1, 3, 40, 600])
 }
 
 /// Small slots are the most frequent: they meet every border, and fast.
@@ -34,7 +65,8 @@ pub fn payload_length(rng: &mut Rng, c: u64) -> u64 {
         0..=3 => rng.pick_number(&[0, 1, 3, 12, 100]),
         4 | 5 => rng.pick_number(&[4083, 4084, 4085, 8179, 8180, 8181]),
         6 => c - rng.range(10, 13),
-        7 => rng.below(2 * c),
+        7 if c < 1 << 18 => rng.below(2 * c),
+        7..=10 if c >= 1 << 18 => rng.pick_number(&LONG_PAYLOADS),
         _ => rng.below(600),
     }
 }
@@ -44,7 +76,7 @@ pub fn record_id(rng: &mut Rng, start: u64, end: u64, segment_borders: &[u64]) -
     match rng.below(12) {
         0 => start.wrapping_sub(rng.range(1, 2)),
         1 => end.wrapping_add(rng.range(1, 2)),
-        2 => rng.pick_number(&[1, u64::MAX, u64::MAX - 1, start ^ 1 << 32, end ^ 1 << 32]),
+        2 => rng.pick_number(&[1, u64::MAX, u64::MAX - 1, start ^ 1 << 32, end ^ 1 << 32, end ^ 1 << 31, start ^ 1 << 63]),
         3 if rng.once_in(3) => 0,
         4..=6 if !segment_borders.is_empty() => rng.pick_number(segment_borders),
         7 => start,
@@ -53,16 +85,23 @@ pub fn record_id(rng: &mut Rng, start: u64, end: u64, segment_borders: &[u64]) -
     }
 }
 
+pub fn shuffle<T>(rng: &mut Rng, items: &mut [T]) {
+    for at in 1..items.len() {
+        items.swap(at, rng.below(at as u64 + 1) as usize);
+    }
+}
+
 /// Images that no log wrote: a run of records from any id on, over segments from any id on.
 pub fn synthetic(rng: &mut Rng, shape: Shape) -> Vec<SegmentFile> {
     let mut record = match rng.below(4) {
         0 => 1,
         1 => u64::MAX - rng.below(8),
-        2 => (1 << 32) - rng.below(4),
+        2 => rng.pick_number(&ID_BORDERS).wrapping_sub(rng.below(4)),
         _ => rng.range(1, 1000),
     };
     let mut id = match rng.below(4) {
         0 => u32::MAX - rng.below(4) as u32,
+        1 if rng.once_in(2) => (rng.pick_number(&ID_BORDERS[..2]) - rng.below(4)) as u32,
         1 => rng.next() as u32,
         _ => rng.range(1, 20) as u32,
     };

@@ -1,8 +1,9 @@
 //! A small model of document 01's log: what append, the prunes and recovery answer, and what stands in the area and the index after them.
 //! Ours is held to it on every call. A refusal names its row of docs/DIFFERENCES.md where the original has no such test at that place.
 
+use crate::calls::{Shape, NO_LOG, NO_SEGMENT};
 use crate::departures::*;
-use crate::ffi::{Image, Log, Segment, Shape};
+use crate::ffi::{Image, Log, Segment};
 
 const PAGE: u64 = 4096;
 const HEADER: u64 = 12;
@@ -28,12 +29,8 @@ pub fn padded(position: u64) -> u64 {
     (position + PAGE - 1) / PAGE * PAGE
 }
 
-pub fn no_log() -> Log {
-    Log { slots: 0, capacity: 0, soft_size: 0, start_live: 0, end_live: 0, count: 0, segments: [Segment::default(); 64] }
-}
-
 pub fn empty_log(shape: Shape) -> Log {
-    Log { slots: shape.k, capacity: shape.c, soft_size: shape.m, ..no_log() }
+    Log { slots: shape.k, capacity: shape.c, soft_size: shape.m, ..NO_LOG }
 }
 
 pub fn shape_of(log: &Log) -> Shape {
@@ -54,7 +51,7 @@ pub fn well_shaped(log: &Log, area_length: usize) -> bool {
         return false;
     }
     let (used, unused) = log.segments.split_at(log.count as usize);
-    if unused.iter().any(|segment| *segment != Segment::default()) {
+    if unused.iter().any(|segment| *segment != NO_SEGMENT) {
         return false;
     }
     let (first, last) = match (used.first(), used.last()) {

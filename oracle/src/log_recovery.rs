@@ -1,10 +1,12 @@
 //! Recoveries in a history: from its own images, the other side's, damaged and made-up ones; and arguments that only ours is given.
 //! Compared: acceptance, number of the refusal, log, index rows, payloads delivered, and every lent byte and word.
 
+use crate::calls::{self, Shape, NO_LOG, NO_PART};
+use crate::causes::Opening;
 use crate::departures::*;
-use crate::ffi::{self, Image, Log, Shape};
+use crate::ffi::{Image, Log, Part};
 use crate::lent::Lent;
-use crate::log_cases::{damage, ids_shown, range, soft_size, synthetic, SegmentFile};
+use crate::log_cases::{damage, ids_shown, range, shuffle, soft_size, synthetic, SegmentFile};
 use crate::log_model::{self as model, listed, Refusal};
 use crate::logs::{After, History, Step};
 use crate::original_log::{self, Opened};
@@ -32,13 +34,22 @@ fn largest_claim(files: &[SegmentFile]) -> u64 {
 }
 
 impl History<'_> {
-    /// Both sides recover from what they have.
+    /// Both sides recover all that they have.
+    pub fn recover_whole(&mut self) -> After {
+        self.recover_own((self.log.start_live, self.log.end_live))
+    }
+
+    /// Both sides recover some of what they have.
     pub fn recover_in_place(&mut self) -> After {
+        let range = range(&mut self.rng, (self.log.start_live, self.log.end_live));
+        self.recover_own(range)
+    }
+
+    fn recover_own(&mut self, (s, e): (u64, u64)) -> After {
         let mut images: Vec<Image> = listed(&self.log).iter().map(|segment| image(segment.id, segment.slot, segment.size)).collect();
         shuffle(&mut self.rng, &mut images);
         let (shape, area) = (model::shape_of(&self.log), self.area.content().to_vec());
         let given = Given { how: "in place", shape, area, images, folder: 0, largest_claim: largest_claim(&self.our_files()) };
-        let (s, e) = range(&mut self.rng, (self.log.start_live, self.log.end_live));
         self.recover(given, s, e)
     }
 
@@ -104,33 +115,33 @@ impl History<'_> {
     }
 
     fn recover(&mut self, given: Given, s: u64, e: u64) -> After {
-        let live = e.saturating_sub(s).saturating_add(1).min(40);
+        let live = e.saturating_sub(s).saturating_add(1).min(400);
         let words = match self.rng.below(12) {
             0 => self.rng.below(4 * live),
             1 => 4 * live - 1,
+            2 if self.rng.once_in(20) => (1 << 16) + self.rng.below(4),
             _ => 4 * live + self.rng.below(9),
         };
         let mut model_index = vec![self.rng.next(); words as usize];
         let mut index = Lent::new(&model_index, 0xA5A5_A5A5_A5A5_A5A5);
         let (mut area, mut model_area) = (Lent::new(&given.area, 0xA5), given.area.clone());
         let expected = model::recover(given.shape, &mut model_area, &given.images, s, e, &mut model_index);
-        let answer = ffi::recover(given.shape, area.content_mut(), &given.images, s, e, index.content_mut());
-        let images = given.images.clone();
-        self.steps.push(Step::Recover { how: given.how, s, e, images, index_words: words as usize });
+        let images = Lent::new(&given.images, image(0xA5A5_A5A5, 0xA5A5_A5A5, 0xA5A5_A5A5));
+        let answer = calls::recover(given.shape, area.content_mut(), images.content(), s, e, index.content_mut());
+        self.steps.push(Step::Recover { how: given.how, s, e, images: given.images.clone(), index_words: words as usize });
         let (refusal, log, rows) = match &expected {
             Ok((log, rows)) => (0, *log, *rows),
-            Err(refusal) => (refusal.number, model::no_log(), 0),
+            Err(refusal) => (refusal.number, NO_LOG, 0),
         };
         if (answer.refusal, answer.reserved, answer.rows, answer.log) != (refusal, 0, rows, log) {
             return self.differs(format!("recovery answers {}, document 01 {:?}", answer.refusal, expected.map(|(log, _)| log)));
         }
-        let stays = area.content() == &model_area[..] && index.content() == &model_index[..];
-        if !stays || !area.guards_intact() || !index.guards_intact() {
-            return self.differs("area or index after recovery is not what document 01 has".to_string());
+        if !area.unchanged(&model_area) || !index.unchanged(&model_index) || !images.unchanged(&given.images) {
+            return self.differs("area, index or rows after recovery are not what document 01 has".to_string());
         }
         match expected {
             Ok(_) => self.accepted(given, log, area, index.content(), (s, e)),
-            Err(refusal) => self.refused(given, refusal, (s, e)),
+            Err(refusal) => self.refused(given, refusal, (s, e), words),
         }
     }
 
@@ -142,8 +153,8 @@ impl History<'_> {
         let mut payloads = Vec::new();
         for row in index.chunks_exact(4).take(if s == 0 { 0 } else { (e - s + 1) as usize }) {
             let row = [row[0], row[1], row[2], row[3]];
-            let part = ffi::payload(&log, area.content(), row);
-            if ffi::row_question(&log, area.content(), row) != 0 || part.refusal != 0 {
+            let part = calls::payload(&log, area.content(), row);
+            if calls::row_question(&log, area.content(), row) != 0 || part.refusal != 0 {
                 return self.differs(format!("the row {:?} of a recovery is refused", row));
             }
             payloads.push((row[0], area.content()[part.at as usize..(part.at + part.length) as usize].to_vec()));
@@ -165,24 +176,33 @@ impl History<'_> {
     }
 
     /// Ours refuses: the original refuses alike, or a departure explains what it does.
-    fn refused(&mut self, given: Given, refusal: Refusal, (s, e): (u64, u64)) -> After {
+    fn refused(&mut self, given: Given, refusal: Refusal, (s, e): (u64, u64), words: u64) -> After {
         let Refusal { number, departure } = refusal;
-        if [1, 13, 23].contains(&number) {
+        if [1, 13].contains(&number) {
             return self.departs(&format!("recover: {}, ours alone", number), departure, After::Together);
         }
         if given.how == NO_FOLDER {
             return self.departs(&format!("recover: {}, rows that no folder gives", number), Some(&MEMORY), After::Together);
         }
+        let folder = &self.folders[given.folder];
+        let files = folder.files();
+        let explained = |departure: &&Departure, delivered: &[(u64, Vec<u8>)]| {
+            number == 23 || Opening { range: (s, e), files: &files, delivered }.explains(departure)
+        };
         let reads_images = ![11, 14, 15].contains(&number);
         if reads_images && given.largest_claim > LARGEST_CLAIM {
             let class = format!("recover: {}, rust not run: claims over 1 MiB", number);
-            return self.departs(&class, Some(&CLAIMED_LENGTH), After::Together);
+            let known = departure.map_or(true, |departure| explained(&departure, &[]));
+            return self.departs(&class, Some(&CLAIMED_LENGTH).filter(|_| known), After::Together);
         }
-        let folder = &self.folders[given.folder];
-        let files_before = folder.file_count();
         let Opened { log, delivered } = original_log::open(folder, given.shape.m, s, e);
-        let deleted = folder.file_count() < files_before;
+        let deleted = folder.file_count() < files.len();
         let after = if given.folder == 0 { After::Apart } else { After::Together };
+        let departure = departure.filter(|departure| explained(departure, &delivered));
+        if number == 23 {
+            let short = log.is_ok() && words < 4 * delivered.len() as u64;
+            return self.departs("recover: 23, the Rust accepts and delivers more", departure.filter(|_| short), after);
+        }
         let originals = match log {
             Ok(_) => return self.departs(&format!("recover: {}, the Rust accepts", number), departure, after),
             Err(originals) => originals,
@@ -213,23 +233,27 @@ impl History<'_> {
         let mut model_area = self.model_area[shorter..].to_vec();
         let mut area = Lent::new(&model_area, 0xA5);
         let argument = self.rng.pick_number(&[0, log.start_live, log.end_live, 1]);
-        let (name, expected, (refusal, answer)) = match self.rng.below(3) {
+        let (name, expected, answer) = match self.rng.below(3) {
             0 => {
-                let answer = ffi::append(&log, area.content_mut(), b"abc");
-                ("append", model::append(&log, &mut model_area, b"abc"), (answer.refusal, answer.log))
+                let answer = calls::append(&log, area.content_mut(), b"abc");
+                let expected = model::append(&log, &mut model_area, b"abc");
+                let id = answer.id.wrapping_sub(expected.map_or(0, |next| next.end_live));
+                ("append", expected, (answer.refusal, answer.log, answer.reserved as u64 | id))
             }
             1 => {
-                let answer = ffi::prune_oldest(&log, area.content_mut(), argument);
-                ("prune oldest", model::prune_oldest(&log, &model_area, argument), (answer.refusal, answer.log))
+                let answer = calls::prune_oldest(&log, area.content_mut(), argument);
+                let expected = model::prune_oldest(&log, &model_area, argument);
+                ("prune oldest", expected, (answer.refusal, answer.log, answer.reserved as u64))
             }
             _ => {
-                let answer = ffi::prune_recent(&log, area.content_mut(), argument);
-                ("prune recent", model::prune_recent(&log, &mut model_area, argument), (answer.refusal, answer.log))
+                let answer = calls::prune_recent(&log, area.content_mut(), argument);
+                let expected = model::prune_recent(&log, &mut model_area, argument);
+                ("prune recent", expected, (answer.refusal, answer.log, answer.reserved as u64))
             }
         };
         let (number, next) = expected.map_or_else(|refusal| (refusal.number, log), |next| (0, next));
-        if (refusal, answer) != (number, next) || area.content() != &model_area[..] || !area.guards_intact() {
-            return self.differs(format!("{} of the log value {:?}: {}, document 01 {}", name, log, refusal, number));
+        if answer != (number, next, 0) || !area.unchanged(&model_area) {
+            return self.differs(format!("{} of the log value {:?}: {}, document 01 {}", name, log, answer.0, number));
         }
         self.departs(&format!("any log value: {}, {}", name, number), Some(&LOG_VALUE), After::Together)
     }
@@ -238,9 +262,9 @@ impl History<'_> {
     pub fn any_shape(&mut self) -> After {
         let shape = any_shape(&mut self.rng, model::shape_of(&self.log));
         let expected = model::new(shape, self.area.content().len());
-        let answer = ffi::new(shape, self.area.content_mut());
-        let (number, log) = expected.map_or_else(|refusal| (refusal.number, model::no_log()), |log| (0, log));
-        if (answer.refusal, answer.log) != (number, log) || self.area.content() != &self.model_area[..] {
+        let answer = calls::new(shape, self.area.content_mut());
+        let (number, log) = expected.map_or_else(|refusal| (refusal.number, NO_LOG), |log| (0, log));
+        if (answer.refusal, answer.reserved, answer.log) != (number, 0, log) || !self.area.unchanged(&self.model_area) {
             return self.differs(format!("a new log of {:?}: {}, document 01 {}", shape, answer.refusal, number));
         }
         self.departs(&format!("new log: {}", number), Some(&MEMORY), After::Together)
@@ -268,12 +292,12 @@ impl History<'_> {
         self.steps.push(Step::Row(row));
         let number = model::row_question(&log, &self.model_area, row);
         let expected = match number {
-            0 => ffi::Part { at: row[1] * c + offset, length, ..Default::default() },
-            number => ffi::Part { refusal: number, ..Default::default() },
+            0 => Part { at: row[1] * c + offset, length, ..NO_PART },
+            number => Part { refusal: number, ..NO_PART },
         };
-        let question = ffi::row_question(&log, self.area.content(), row);
-        let part = ffi::payload(&log, self.area.content(), row);
-        if question != number || part != expected {
+        let question = calls::row_question(&log, self.area.content(), row);
+        let part = calls::payload(&log, self.area.content(), row);
+        if question != number || part != expected || !self.area.unchanged(&self.model_area) {
             return self.differs(format!("the row {:?}: {} {:?}, document 01 {:?}", row, question, part, expected));
         }
         self.departs(&format!("row: {}", number), Some(if number == 2 { &LOG_VALUE } else { &INDEX_ROWS }), After::Together)
@@ -282,12 +306,6 @@ impl History<'_> {
 
 fn image(id: u32, slot: u32, size: u64) -> Image {
     Image { id, slot, size }
-}
-
-fn shuffle<T>(rng: &mut Rng, items: &mut [T]) {
-    for at in 1..items.len() {
-        items.swap(at, rng.below(at as u64 + 1) as usize);
-    }
 }
 
 /// K, C or M another number: beside its border, or far out.

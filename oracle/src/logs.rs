@@ -1,10 +1,12 @@
 //! Logs: whole histories of appends, prunes and recoveries, the original on a folder of files, ours on an area in memory.
 //! Compared after each call: answers, live range, segments, sizes, every byte of each segment, and what must not have changed.
 
+use crate::calls;
+use crate::causes;
 use crate::departures::*;
 use crate::ffi::{self, Log, Segment};
 use crate::lent::Lent;
-use crate::log_cases::{damage_header, ids_in, payload_length, record_id, shape, SegmentFile};
+use crate::log_cases::{damage_header, ids_in, payload_length, record_id, setting, small_length, SegmentFile, Setting};
 use crate::log_model::{self as model, listed, Refusal};
 use crate::original_log::{self, Folder, OriginalLog, FILE_MISSING, NO_SEGMENT_NAME, PREFIX};
 use crate::rng::Rng;
@@ -62,10 +64,10 @@ pub struct History<'a> {
 impl<'a> History<'a> {
     fn play(table: &'a mut Table, folders: &'a mut [Folder; 2], seed: (u64, u64)) {
         let mut rng = Rng::new(seed.0.wrapping_mul(0xD1B5_4A32_D192_ED03) ^ seed.1);
-        let shape = shape(&mut rng);
+        let Setting { shape, first_appends } = setting(&mut rng);
         let model_area = vec![rng.next() as u8; (shape.k * shape.c) as usize];
         let mut area = Lent::new(&model_area, 0xA5);
-        let log = ffi::new(shape, area.content_mut()).log;
+        let log = calls::new(shape, area.content_mut()).log;
         folders[0].clear();
         let opened = original_log::open(&folders[0], shape.m, 0, 0);
         let original = opened.log.unwrap_or_else(|number| panic!("the original does not open an empty folder: {}", number));
@@ -74,9 +76,15 @@ impl<'a> History<'a> {
             history.differs("a new log is not the empty one".to_string());
             return;
         }
-        for _ in 0..history.rng.range(3, 20) {
+        let steps = history.rng.range(3, 20);
+        for number in 0..first_appends + steps {
             history.table.cases += 1;
-            let after = match history.step() {
+            let after = match number {
+                number if number < first_appends => history.small_append(),
+                number if number == first_appends && number > 0 => history.recover_whole(),
+                _ => history.step(),
+            };
+            let after = match after {
                 After::Apart => history.reopen(),
                 after => after,
             };
@@ -179,29 +187,56 @@ impl<'a> History<'a> {
     }
 
     fn append(&mut self) -> After {
-        let huge = self.rng.once_in(400);
-        let length = if huge { (1 << 30) + self.rng.below(2) } else { payload_length(&mut self.rng, self.log.capacity) } as usize;
-        // A huge payload is not touched by either side: these zeros are never mapped.
-        let payload = if huge { vec![0; length] } else { self.rng.bytes(length) };
+        if self.rng.once_in(400) {
+            // It is not touched by either side: these zeros take no memory.
+            let huge = Lent::zeros((1 << 30) + self.rng.below(2) as usize, 0x5A);
+            return self.append_lent(&huge);
+        }
+        let length = payload_length(&mut self.rng, self.log.capacity);
+        self.append_of(length)
+    }
+
+    /// One of the appends that a history may begin with.
+    fn small_append(&mut self) -> After {
+        let length = small_length(&mut self.rng);
+        self.append_of(length)
+    }
+
+    fn append_of(&mut self, length: u64) -> After {
+        let content = self.rng.bytes(length as usize);
+        let payload = Lent::new(&content, 0x5A);
+        match self.append_lent(&payload) {
+            After::Over => After::Over,
+            _ if !payload.unchanged(&content) => self.differs("append changed its payload".to_string()),
+            after => after,
+        }
+    }
+
+    fn append_lent(&mut self, payload: &Lent<u8>) -> After {
+        let length = payload.content().len();
         self.steps.push(Step::Append { length });
         let before = self.log;
-        let expected = model::append(&self.log, &mut self.model_area, &payload);
-        let answer = ffi::append(&self.log, self.area.content_mut(), &payload);
+        let expected = model::append(&self.log, &mut self.model_area, payload.content());
+        let answer = calls::append(&self.log, self.area.content_mut(), payload.content());
         if let Some(what) = self.take(answer.refusal, answer.log, &expected) {
             return self.differs(what);
         }
-        if (answer.id, answer.reserved) != (expected.map_or(0, |next| next.end_live), 0) {
+        if (answer.id, answer.reserved) != (expected.map_or(0, |next| next.end_live), 0) || !payload.guards_intact() {
             return self.differs(format!("append answers id {}", answer.id));
         }
+        let shape = model::shape_of(&before);
         if length == 1 << 30 {
-            return self.departs(&format!("append: {}, rust not run: a record of 1 GiB", answer.refusal), Some(&MEMORY), After::Together);
+            let caused = causes::of_append_to_come(answer.refusal, &self.original, shape, model::padded(12 + length as u64));
+            let class = format!("append: {}, rust not run: a record of 1 GiB", answer.refusal);
+            return self.departs(&class, Some(&MEMORY).filter(|_| caused), After::Together);
         }
         let would_be = before.end_live.wrapping_add(1);
-        match (expected, self.original.append(&payload)) {
+        match (expected, self.original.append(payload.content())) {
             (Ok(_), Ok(id)) if id == answer.id && self.log.count > before.count => self.alike("append: accepted, a new segment"),
             (Ok(_), Ok(id)) if id == answer.id => self.alike("append: accepted, to the head"),
             (Err(Refusal { number, departure: None }), Err(originals)) if number == originals => self.alike(&format!("append: {}", number)),
             (Err(Refusal { number, departure }), Ok(id)) if id == would_be => {
+                let departure = departure.filter(|_| causes::of_append(number, &self.original, shape));
                 self.departs(&format!("append: {}, the Rust accepts", number), departure, After::Apart)
             }
             (_, originals) => self.differs(format!("append: ours {}, the original {:?}", answer.refusal, originals)),
@@ -217,7 +252,7 @@ impl<'a> History<'a> {
         let new_start = self.some_id();
         self.steps.push(Step::PruneOldest(new_start));
         let expected = model::prune_oldest(&self.log, &self.model_area, new_start);
-        let answer = ffi::prune_oldest(&self.log, self.area.content_mut(), new_start);
+        let answer = calls::prune_oldest(&self.log, self.area.content_mut(), new_start);
         if let Some(what) = self.take(answer.refusal | answer.reserved, answer.log, &expected) {
             return self.differs(what);
         }
@@ -238,15 +273,16 @@ impl<'a> History<'a> {
         let head = reaching.or_else(|| listed(&self.log).first()).copied();
         let names_it = head.map_or(false, |head| ids_in(self.our_bytes(&head)).contains(&new_end));
         let expected = model::prune_recent(&self.log, &mut self.model_area, new_end);
-        let answer = ffi::prune_recent(&self.log, self.area.content_mut(), new_end);
+        let answer = calls::prune_recent(&self.log, self.area.content_mut(), new_end);
         if let Some(what) = self.take(answer.refusal | answer.reserved, answer.log, &expected) {
             return self.differs(what);
         }
+        let range = self.original.live_range();
         let originals = self.original.prune_recent(new_end);
         let (number, departure) = match (expected, originals) {
             (Ok(_), Ok(())) => return self.alike("prune recent: accepted"),
             (Ok(_), Err(number)) => return self.differs(format!("prune recent: the original refuses with {}", number)),
-            (Err(Refusal { number, departure }), _) => (number, departure),
+            (Err(Refusal { number, departure }), _) => (number, departure.filter(|_| causes::of_prune(number, range, new_end))),
         };
         if originals.is_err() {
             let class = format!("prune recent: {}, the Rust fails with {}, its writer dropped", number, originals.unwrap_err());

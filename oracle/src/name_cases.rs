@@ -100,9 +100,15 @@ pub fn grid_case(number: u64) -> (&'static str, String) {
     (prefix, format!("{}{}{}{}", start, dot, digits, suffix))
 }
 
+/// Lengths at which a count of 7, 8 or 16 bits would end.
+const LONG: [u64; 6] = [127, 128, 129, 255, 256, 257];
+const LONGEST: [u64; 3] = [65_521, 65_536, 65_537];
+
 fn prefix_of(rng: &mut Rng) -> String {
-    match rng.below(4) {
-        0 => (0..rng.range(1, 24)).map(|_| rng.pick(&MUTATIONS)).collect(),
+    match rng.below(400) {
+        0 => "p".repeat(rng.pick_number(&LONGEST) as usize),
+        1..=8 => "p".repeat(rng.pick_number(&LONG) as usize - 15 * rng.below(2) as usize),
+        9..=100 => (0..rng.range(1, 24)).map(|_| rng.pick(&MUTATIONS)).collect(),
         _ => rng.pick(&PREFIXES).to_string(),
     }
 }
@@ -122,6 +128,7 @@ pub fn write_case(rng: &mut Rng) -> (String, u32, usize) {
     let id = id_of(rng);
     let length = match rng.below(8) {
         0 => rng.below(300) as usize,
+        1 if rng.once_in(40) => rng.pick_number(&LONGEST) as usize,
         1 => prefix.len() + 15,
         _ => (prefix.len() + rng.range(0, 34) as usize).saturating_sub(2),
     };

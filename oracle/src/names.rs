@@ -1,12 +1,14 @@
 //! Names: both sides write and parse the same segment file names.
 //! Compared: acceptance, number of the refusal, id, length, the bytes written and those that must stay.
 
+use crate::calls::NO_WRITTEN;
 use crate::departures::{EMPTY_PREFIX, NAME_BUFFER};
+use crate::ffi::{Parsed, Written};
 use crate::lent::Lent;
 use crate::name_cases::{grid_case, mutated_case, write_case};
 use crate::rng::Rng;
 use crate::table::{hex, Table};
-use crate::{ffi, original};
+use crate::{calls, original};
 
 pub fn run(size: u64, seed: u64) -> Table {
     let mut table = Table::new(format!("names, seed {}", seed));
@@ -34,19 +36,19 @@ pub fn run(size: u64, seed: u64) -> Table {
 fn compare_write(table: &mut Table, prefix: &str, id: u32, length: usize) {
     let name = original::name_format(prefix, id);
     let before: Vec<u8> = (0..length).map(|at| 0x80 | (at as u8).wrapping_add(id as u8)).collect();
-    let mut out = Lent::new(&before, 0xA5);
-    let answer = ffi::name_write(prefix.as_bytes(), id, out.content_mut());
+    let (lent_prefix, mut out) = (Lent::new(prefix.as_bytes(), 0x5A), Lent::new(&before, 0xA5));
+    let answer = calls::name_write(lent_prefix.content(), id, out.content_mut());
 
     let mut after = before;
     let expected = if prefix.is_empty() {
-        ffi::Written { refusal: 30, ..Default::default() }
+        Written { refusal: 30, ..NO_WRITTEN }
     } else if length < name.len() {
-        ffi::Written { refusal: 36, ..Default::default() }
+        Written { refusal: 36, ..NO_WRITTEN }
     } else {
         after[..name.len()].copy_from_slice(name.as_bytes());
-        ffi::Written { length: name.len() as u64, ..Default::default() }
+        Written { length: name.len() as u64, ..NO_WRITTEN }
     };
-    if answer != expected || out.content() != &after[..] || !out.guards_intact() {
+    if answer != expected || !out.unchanged(&after) || !lent_prefix.unchanged(prefix.as_bytes()) {
         return table.differs(prefix.len() + length, || {
             format!("  write, prefix {:?}, id {}, buffer {}: {:?}, {}", prefix, id, length, answer, hex(out.content()))
         });
@@ -59,13 +61,14 @@ fn compare_write(table: &mut Table, prefix: &str, id: u32, length: usize) {
 }
 
 fn compare_parse(table: &mut Table, prefix: &str, name: &str) {
-    let answer = ffi::name_parse(prefix.as_bytes(), name.as_bytes());
+    let (lent_prefix, lent_name) = (Lent::new(prefix.as_bytes(), 0x5A), Lent::new(name.as_bytes(), 0xA5));
+    let answer = calls::name_parse(lent_prefix.content(), lent_name.content());
     let original = original::name_parse(prefix, name);
     let expected = match original {
-        Ok(id) => ffi::Parsed { refusal: 0, id },
-        Err(refusal) => ffi::Parsed { refusal, id: 0 },
+        Ok(id) => Parsed { refusal: 0, id },
+        Err(refusal) => Parsed { refusal, id: 0 },
     };
-    if answer != expected {
+    if answer != expected || !lent_prefix.unchanged(prefix.as_bytes()) || !lent_name.unchanged(name.as_bytes()) {
         return table.differs(prefix.len() + name.len(), || {
             format!("  parse, prefix {:?}, name {:?}: {:?}, the original {:?}", prefix, name, answer, original)
         });

@@ -37,11 +37,10 @@ pub struct Folder {
 }
 
 impl Folder {
-    /// A new folder on a memory-backed file system where there is one.
+    /// A new folder in the one that oracle/run made and removes, whatever becomes of this program.
     pub fn new(name: &str) -> Folder {
-        let shared_memory = PathBuf::from("/dev/shm");
-        let place = if shared_memory.is_dir() { shared_memory } else { std::env::temp_dir() };
-        let path = place.join(format!("iflughan-oracle-{}-{}", std::process::id(), name));
+        let place = std::env::var_os("IFLUGHAN_ORACLE_FOLDER").expect("started by oracle/run");
+        let path = PathBuf::from(place).join(name);
         fs::create_dir_all(&path).expect("a folder for the original's files");
         Folder { path }
     }
@@ -76,6 +75,18 @@ impl Folder {
 
     pub fn write_named(&self, name: &str, content: &[u8]) {
         fs::write(self.path.join(name), content).expect("a file");
+    }
+
+    /// The segment files in the order of their ids.
+    pub fn files(&self) -> Vec<SegmentFile> {
+        let mut files = Vec::new();
+        for entry in fs::read_dir(&self.path).expect("the folder").flatten() {
+            if let Ok(id) = original::name_parse(PREFIX, &entry.file_name().to_string_lossy()) {
+                files.push(SegmentFile { id, bytes: fs::read(entry.path()).expect("a segment file") });
+            }
+        }
+        files.sort_by_key(|file| file.id);
+        files
     }
 
     pub fn file_count(&self) -> usize {

@@ -5,6 +5,7 @@ use crate::delta_cases::{draft, input, usual_draft};
 use crate::delta_model::{decode, sorted};
 use crate::name_cases::{id_of, mutated_case, PREFIXES};
 use crate::original;
+use crate::record_images;
 use crate::record_logs;
 use crate::rng::Rng;
 use crate::table::hex;
@@ -12,12 +13,12 @@ use std::collections::HashMap;
 use std::io::Write;
 
 /// Lines of one class, and lines of one class that are longer than LONG.
-const MOST: usize = 150;
-const MOST_LONG: usize = 2;
-const LONG: usize = 4000;
+const MOST: usize = 120;
+const MOST_LONG: usize = 1;
+const LONG: usize = 800;
 /// No line is longer: the replay reads a line into a fixed buffer.
 const LONGEST: usize = 40_000;
-const DRAWS: usize = 60_000;
+const DRAWS: usize = 12_000;
 
 struct Sample {
     lines: Vec<String>,
@@ -26,7 +27,12 @@ struct Sample {
 
 impl Sample {
     /// Keeps the line unless its class has enough.
-    fn offer(&mut self, class: String, line: String) {
+    fn offer(&mut self, class: String, line: impl FnOnce() -> String) {
+        let full = |long: bool, most: usize| self.taken.get(&(class.clone(), long)).map_or(false, |taken| *taken >= most);
+        if full(false, MOST) && full(true, MOST_LONG) {
+            return;
+        }
+        let line = line();
         let long = line.len() > LONG;
         let taken = self.taken.entry((class, long)).or_insert(0);
         if line.len() <= LONGEST && *taken < if long { MOST_LONG } else { MOST } {
@@ -37,7 +43,6 @@ impl Sample {
 }
 
 pub fn write(path: &str, seed: u64) -> std::io::Result<()> {
-    original::silence_its_panics();
     let mut sample = Sample { lines: Vec::new(), taken: HashMap::new() };
     let mut rng = Rng::new(seed);
     for _ in 0..DRAWS {
@@ -48,6 +53,7 @@ pub fn write(path: &str, seed: u64) -> std::io::Result<()> {
     }
     sample.lines.sort_by_key(|line| line.as_bytes()[0]);
     sample.lines.extend(record_logs::lines(seed));
+    sample.lines.extend(record_images::lines(seed));
     let mut file = std::fs::File::create(path)?;
     sample.lines.iter().try_for_each(|line| writeln!(file, "{}", line))
 }
@@ -56,7 +62,7 @@ fn written_name(sample: &mut Sample, rng: &mut Rng) {
     let (prefix, id) = (rng.pick(&PREFIXES), id_of(rng));
     let departure = if prefix.is_empty() { 30 } else { 0 };
     let name = original::name_format(prefix, id);
-    let line = format!("W {:02} {} {:08x} {}", departure, hex(prefix.as_bytes()), id, hex(name.as_bytes()));
+    let line = || format!("W {:02} {} {:08x} {}", departure, hex(prefix.as_bytes()), id, hex(name.as_bytes()));
     sample.offer(format!("W {}", departure), line);
 }
 
@@ -67,8 +73,8 @@ fn parsed_name(sample: &mut Sample, rng: &mut Rng) {
         Err(30) => (30, 30, 0),
         Err(number) => (0, number, 0),
     };
-    let (prefix, name) = (hex(prefix.as_bytes()), hex(name.as_bytes()));
-    sample.offer(format!("P {}", number), format!("P {:02} {} {} {:02} {:08x}", departure, prefix, name, number, id));
+    let line = || format!("P {:02} {} {} {:02} {:08x}", departure, hex(prefix.as_bytes()), hex(name.as_bytes()), number, id);
+    sample.offer(format!("P {}", number), line);
 }
 
 fn decoded_delta(sample: &mut Sample, rng: &mut Rng) {
@@ -81,7 +87,7 @@ fn decoded_delta(sample: &mut Sample, rng: &mut Rng) {
         Ok((map, position)) => (0, position, answer_rows(&map)),
         Err(number) => (number, 0, Vec::new()),
     };
-    let line = format!("D {:02} {} {:02} {:08x} {}", departure, hex(&input), number, consumed, hex(&rows));
+    let line = || format!("D {:02} {} {:02} {:08x} {}", departure, hex(&input), number, consumed, hex(&rows));
     sample.offer(format!("D {} {}", departure, number), line);
 }
 
@@ -108,6 +114,6 @@ fn encoded_delta(sample: &mut Sample, rng: &mut Rng) {
     let input = delta.bytes();
     let encoded = original::delta_decode(&input).map(|(map, _)| original::delta_encode(map));
     if let Some(encoded) = encoded.ok().and_then(|bytes| sorted(&bytes)) {
-        sample.offer("E".to_string(), format!("E 00 {} {}", hex(&input), hex(&encoded)));
+        sample.offer("E".to_string(), || format!("E 00 {} {}", hex(&input), hex(&encoded)));
     }
 }

@@ -1,11 +1,14 @@
 //! Histories for the recorded sample: the original's log on a folder, its answer and its state after each call, a line each.
-//! The model of document 01 plays along, to name departures and to bring the original back where it went on alone.
+//! The model of document 01 plays along, to name departures and to bring the original back where it went on alone. Some histories end
+//! with a prune over altered bytes.
 
-use crate::ffi::{Image, Log, Segment, Shape};
-use crate::log_cases::{payload_length, range, record_id, shape, SegmentFile};
+use crate::calls::Shape;
+use crate::ffi::{Image, Log, Segment};
+use crate::log_cases::{damage_header, payload_length, range, record_id, shape, SegmentFile};
 use crate::log_model::{self as model, listed, Refusal};
 use crate::original_log::{self, Folder, Opened, OriginalLog};
 use crate::rng::Rng;
+use crate::table::hex;
 
 const HISTORIES: u64 = 120;
 /// The largest area of a recorded history.
@@ -19,12 +22,18 @@ pub fn lines(seed: u64) -> Vec<String> {
         let mut shape = shape(&mut rng);
         shape.k = shape.k.min(LARGEST_AREA / shape.c);
         lines.push(format!("L {:08x} {:08x} {:08x}", shape.k, shape.c, shape.m));
-        Recorder::new(&folder, shape).play(&mut rng, &mut lines);
+        let mut recorder = Recorder::new(&folder, shape);
+        let calls = rng.range(6, 24);
+        recorder.play(&mut rng, calls, &mut lines);
+        recorder.prune_over_altered_bytes(&mut rng, &mut lines);
     }
     lines
 }
 
-struct Recorder<'a> {
+/// The state of an empty log.
+pub const NO_STATE: &str = "0000000000000000 0000000000000000 -";
+
+pub struct Recorder<'a> {
     folder: &'a Folder,
     log: Log,
     area: Vec<u8>,
@@ -32,14 +41,19 @@ struct Recorder<'a> {
 }
 
 impl<'a> Recorder<'a> {
-    fn new(folder: &'a Folder, shape: Shape) -> Recorder<'a> {
+    pub fn new(folder: &'a Folder, shape: Shape) -> Recorder<'a> {
         folder.clear();
         let original = original_log::open(folder, shape.m, 0, 0).log.expect("an empty folder opens");
         Recorder { folder, log: model::empty_log(shape), area: vec![0; (shape.k * shape.c) as usize], original }
     }
 
-    fn play(&mut self, rng: &mut Rng, lines: &mut Vec<String>) {
-        for _ in 0..rng.range(6, 24) {
+    /// A log that the original has opened.
+    pub fn over(folder: &'a Folder, log: Log, area: Vec<u8>, original: OriginalLog) -> Recorder<'a> {
+        Recorder { folder, log, area, original }
+    }
+
+    pub fn play(&mut self, rng: &mut Rng, calls: u64, lines: &mut Vec<String>) {
+        for _ in 0..calls {
             let line = match rng.below(10) {
                 0..=5 => self.append(rng),
                 6 => self.prune_oldest(self.some_id(rng)),
@@ -76,6 +90,29 @@ impl<'a> Recorder<'a> {
         format!("R {:02} {:016x} {:02}", self.follow(expected), new_end, answer.err().unwrap_or(0))
     }
 
+    /// One header altered in the area and in the original's file alike, then a cut in that segment, from which the original may not return.
+    fn prune_over_altered_bytes(&mut self, rng: &mut Rng, lines: &mut Vec<String>) {
+        let Some(segment) = listed(&self.log).last().copied() else { return };
+        let start = segment.slot as usize * self.log.capacity as usize;
+        let mut bytes = self.area[start..start + segment.size as usize].to_vec();
+        damage_header(rng, &mut bytes);
+        for (page, (was, is)) in self.area[start..].chunks(4096).zip(bytes.chunks(4096)).enumerate() {
+            if was[..is.len()] != *is {
+                lines.push(format!("B {:08x} {:08x} {}", start + page * 4096, 12, hex(&is[..12])));
+            }
+        }
+        self.area[start..start + bytes.len()].copy_from_slice(&bytes);
+        self.folder.write(segment.id, &bytes);
+        let (new_end, before) = (rng.range(segment.min.max(self.log.start_live), segment.max), self.state());
+        let expected = model::prune_recent(&self.log, &mut self.area, new_end);
+        let answer = self.original.prune_recent(new_end).err().unwrap_or(0);
+        let (departure, state) = match expected {
+            Ok(_) => (0, self.state()),
+            Err(refusal) => (refusal.number, before),
+        };
+        lines.push(format!("R {:02} {:016x} {:02} {}", departure, new_end, answer, state));
+    }
+
     fn recover(&mut self, rng: &mut Rng) -> String {
         let (s, e) = range(rng, (self.log.start_live, self.log.end_live));
         let row = |segment: &Segment| Image { id: segment.id, slot: segment.slot, size: segment.size };
@@ -91,8 +128,7 @@ impl<'a> Recorder<'a> {
             }
             Err(number) => number,
         };
-        let digest = delivered.iter().fold(DIGEST_START, |sum, (id, payload)| digest(digest(sum, &id.to_le_bytes()), payload));
-        let digest = if number == 0 { digest } else { 0 };
+        let digest = if number == 0 { delivered_digest(&delivered) } else { 0 };
         let departure = self.follow(expected.map(|(log, _)| log));
         if number != 0 {
             self.reopen();
@@ -126,7 +162,7 @@ impl<'a> Recorder<'a> {
     }
 
     /// Live range; then for each segment id, size, min, max and the digest of its file.
-    fn state(&self) -> String {
+    pub fn state(&self) -> String {
         let (start, end) = self.original.live_range();
         let mut segments = String::new();
         for (id, min, max) in self.original.segments() {
@@ -137,6 +173,11 @@ impl<'a> Recorder<'a> {
         let segments = if segments.is_empty() { "-".to_string() } else { segments };
         format!("{:016x} {:016x} {}", start, end, segments)
     }
+}
+
+/// The digest of what was delivered: each record's id and payload.
+pub fn delivered_digest(delivered: &[(u64, Vec<u8>)]) -> u64 {
+    delivered.iter().fold(DIGEST_START, |sum, (id, payload)| digest(digest(sum, &id.to_le_bytes()), payload))
 }
 
 const DIGEST_START: u64 = 0xCBF2_9CE4_8422_2325;

@@ -1,14 +1,19 @@
 //! The table of outcome classes that a comparison prints, and what differs.
-//! A class may name the departure (a row of docs/DIFFERENCES.md) that explains why the two sides do not answer alike there.
+//! A class may name a departure (a row of docs/DIFFERENCES.md) that explains why the two sides do not answer alike there.
 
 use crate::departures::Departure;
-use std::collections::BTreeMap;
+use std::collections::{BTreeMap, BTreeSet};
 use std::time::Instant;
+
+/// The classes that the gate's run must reach: part, class and row, as `oracle/run classes` prints them.
+const EXPECTED: &str = include_str!("../classes.txt");
+const ALIKE: &str = "both alike";
 
 pub struct Table {
     pub title: String,
     started: Instant,
-    classes: BTreeMap<String, (u64, Option<&'static Departure>)>,
+    /// By class and row; a class may have several rows.
+    classes: BTreeMap<(String, &'static str), u64>,
     pub cases: u64,
     pub differences: u64,
     smallest: Option<(usize, String)>,
@@ -21,21 +26,16 @@ impl Table {
 
     /// Counts one outcome in which both sides answer alike, or in which nothing but ours is asked.
     pub fn alike(&mut self, class: &str) {
-        self.count(class, None);
+        self.count(class, ALIKE);
     }
 
     /// Counts one outcome that a row of docs/DIFFERENCES.md explains.
     pub fn departs(&mut self, class: &str, departure: &'static Departure) {
-        self.count(class, Some(departure));
+        self.count(class, departure.row);
     }
 
-    fn count(&mut self, class: &str, departure: Option<&'static Departure>) {
-        match self.classes.get_mut(class) {
-            Some(entry) => entry.0 += 1,
-            None => {
-                self.classes.insert(class.to_string(), (1, departure));
-            }
-        }
+    fn count(&mut self, class: &str, row: &'static str) {
+        *self.classes.entry((class.to_string(), row)).or_insert(0) += 1;
     }
 
     /// Counts one case that no rule explains, and keeps its description where its input is the smallest so far.
@@ -48,15 +48,26 @@ impl Table {
 
     pub fn print(&self) {
         println!("{} ({:.1} s)", self.title, self.started.elapsed().as_secs_f64());
-        for (class, (count, departure)) in &self.classes {
-            match departure {
-                Some(departure) => println!("  {:>9}  {:<70}  row {}", count, class, departure.row),
-                None => println!("  {:>9}  {}", count, class),
-            }
+        for ((class, row), count) in &self.classes {
+            println!("  {:>9}  {:<70}  {}", count, class, row);
         }
         if let Some((_, description)) = &self.smallest {
             println!("  {} differences, the smallest input:\n{}", self.differences, description);
         }
+    }
+
+    /// The classes reached, as classes.txt has them.
+    pub fn reached(&self, part: &str) -> BTreeSet<String> {
+        self.classes.keys().map(|(class, row)| format!("{} | {} | {}", part, class, row)).collect()
+    }
+
+    /// Prints the classes that were expected and not reached; how many they are.
+    pub fn missing(&self, part: &str) -> u64 {
+        let reached = self.reached(part);
+        let of_part = EXPECTED.lines().filter(|line| line.split(" | ").next() == Some(part));
+        let missing: Vec<&str> = of_part.filter(|line| !reached.contains(*line)).collect();
+        missing.iter().for_each(|class| println!("  no case any more: {}", class));
+        missing.len() as u64
     }
 }
 
@@ -65,5 +76,6 @@ pub fn hex(bytes: &[u8]) -> String {
     if bytes.is_empty() {
         return "-".to_string();
     }
-    bytes.iter().map(|byte| format!("{:02x}", byte)).collect()
+    let digit = |value: u8| char::from(b"0123456789abcdef"[value as usize]);
+    bytes.iter().flat_map(|byte| [digit(byte >> 4), digit(byte & 15)]).collect()
 }

@@ -1,6 +1,9 @@
-//! The archive's functions, each lent slices that stand between guards. Every call is counted with its number, and is held to what
-//! document 01 says of any call: nothing is written outside what was lent, a refusal changes nothing and has zeros or the log beside it.
+//! The archive's functions, each slice lent between guards and a page nobody may touch. Every call is counted with its number, and is held
+//! to what document 01 says of any call: nothing is written outside what was lent, and a refusal changes nothing and has zeros or the log
+//! beside it.
 
+use crate::calls::{self, Shape};
+pub use crate::calls::{NO_DELTA, NO_LOG, NO_ROW, NO_SEGMENT};
 use crate::ffi::*;
 use crate::lent::Lent;
 
@@ -17,11 +20,6 @@ pub fn hold(condition: bool, what: &str) -> Checked<()> {
     }
 }
 
-pub const NO_SEGMENT: Segment = Segment { id: 0, slot: 0, size: 0, min: 0, max: 0 };
-pub const NO_LOG: Log = Log { slots: 0, capacity: 0, soft_size: 0, start_live: 0, end_live: 0, count: 0, segments: [NO_SEGMENT; 64] };
-pub const NO_ROW: DeltaRow = DeltaRow { key: [0; 32], present: 0, reserved: [0; 7], offset: 0, length: 0, reserved_too: 0 };
-pub const NO_DELTA: Delta = Delta { count: 0, rows: [NO_ROW; 256] };
-
 /// What index words hold before a call.
 pub const UNTOUCHED: u64 = 0x5aa5_5aa5_5aa5_5aa5;
 
@@ -35,23 +33,6 @@ pub fn refusal_numbers() -> impl Iterator<Item = u32> {
 pub struct Archive {
     pub calls: u64,
     pub answered: [u64; 45],
-}
-
-/// A slice as it goes to the archive: NULL where it is empty.
-fn pointer<T: Copy + PartialEq>(lent: &Lent<T>) -> *const T {
-    if lent.content().is_empty() {
-        std::ptr::null()
-    } else {
-        lent.content().as_ptr()
-    }
-}
-
-fn pointer_mut<T: Copy + PartialEq>(lent: &mut Lent<T>) -> *mut T {
-    if lent.content().is_empty() {
-        std::ptr::null_mut()
-    } else {
-        lent.content_mut().as_mut_ptr()
-    }
 }
 
 /// A slice that was lent to be read is as it was, and so are its guards.
@@ -74,7 +55,7 @@ impl Archive {
         Archive { calls: 0, answered: [0; 45] }
     }
 
-    fn count(&mut self, refusal: u32) -> Checked<()> {
+    pub fn count(&mut self, refusal: u32) -> Checked<()> {
         self.calls += 1;
         hold(refusal == 0 || refusal_numbers().any(|number| number == refusal), &format!("no number of document 01: {refusal}"))?;
         self.answered[refusal as usize] += 1;
@@ -83,7 +64,7 @@ impl Archive {
 
     pub fn new_log(&mut self, k: u64, c: u64, m: u64, area: &[u8]) -> Checked<Logged> {
         let mut lent = Lent::new(area, AREA_GUARD);
-        let answer = unsafe { iflughan_new(k, c, m, pointer_mut(&mut lent), area.len()) };
+        let answer = calls::new(Shape { k, c, m }, lent.content_mut());
         self.count(answer.refusal)?;
         only_read(&lent, area, "the area")?;
         hold(answer.reserved == 0 && (answer.refusal == 0 || answer.log == NO_LOG), "not zeros beside the number")?;
@@ -93,25 +74,31 @@ impl Archive {
     /// The answer and the area after it.
     pub fn append(&mut self, log: &Log, area: &[u8], payload: &[u8]) -> Checked<(Appended, Vec<u8>)> {
         let lent_payload = Lent::new(payload, 0x3c);
-        let answer = self.append_as_it_lies(log, area, lent_payload.content())?;
+        let answer = self.append_lent(log, area, &lent_payload)?;
         only_read(&lent_payload, payload, "the payload")?;
         Ok(answer)
     }
 
-    /// Append with no guards around the payload: for one that is too long to be copied.
-    pub fn append_as_it_lies(&mut self, log: &Log, area: &[u8], payload: &[u8]) -> Checked<(Appended, Vec<u8>)> {
+    /// Append of a payload that is too long to be copied.
+    pub fn append_lent(&mut self, log: &Log, area: &[u8], payload: &Lent<u8>) -> Checked<(Appended, Vec<u8>)> {
         let mut lent = Lent::new(area, AREA_GUARD);
-        let from = if payload.is_empty() { std::ptr::null() } else { payload.as_ptr() };
-        let answer = unsafe { iflughan_append(*log, pointer_mut(&mut lent), area.len(), from, payload.len()) };
+        let answer = self.append_to(log, &mut lent, payload)?;
+        Ok((answer, written(&lent, area, answer.refusal, "the area")?))
+    }
+
+    /// Append to an area that is too long to be copied: what it holds after a call is the caller's to compare.
+    pub fn append_to(&mut self, log: &Log, area: &mut Lent<u8>, payload: &Lent<u8>) -> Checked<Appended> {
+        let answer = calls::append(log, area.content_mut(), payload.content());
         self.count(answer.refusal)?;
         hold(answer.reserved == 0, "reserved is not 0")?;
         hold(answer.refusal == 0 || (answer.id == 0 && answer.log == *log), "not the log given beside the number")?;
-        Ok((answer, written(&lent, area, answer.refusal, "the area")?))
+        hold(payload.guards_intact() && area.guards_intact(), "bytes beside the payload or the area were written")?;
+        Ok(answer)
     }
 
     pub fn prune_oldest(&mut self, log: &Log, area: &[u8], new_start: u64) -> Checked<Logged> {
         let mut lent = Lent::new(area, AREA_GUARD);
-        let answer = unsafe { iflughan_prune_oldest(*log, pointer_mut(&mut lent), area.len(), new_start) };
+        let answer = calls::prune_oldest(log, lent.content_mut(), new_start);
         self.count(answer.refusal)?;
         only_read(&lent, area, "the area")?;
         hold(answer.reserved == 0, "reserved is not 0")?;
@@ -122,7 +109,7 @@ impl Archive {
     /// The answer and the area after it.
     pub fn prune_recent(&mut self, log: &Log, area: &[u8], new_end: u64) -> Checked<(Logged, Vec<u8>)> {
         let mut lent = Lent::new(area, AREA_GUARD);
-        let answer = unsafe { iflughan_prune_recent(*log, pointer_mut(&mut lent), area.len(), new_end) };
+        let answer = calls::prune_recent(log, lent.content_mut(), new_end);
         self.count(answer.refusal)?;
         hold(answer.reserved == 0, "reserved is not 0")?;
         hold(answer.refusal == 0 || answer.log == *log, "not the log given beside the number")?;
@@ -135,10 +122,7 @@ impl Archive {
         let (mut lent, mut index) = (Lent::new(area, AREA_GUARD), Lent::new(&before, 0xc3c3));
         let images = Lent::new(asked.images, Image { id: 0xc3, slot: 0xc3, size: 0xc3 });
         let (k, c, m) = asked.shape;
-        let answer = unsafe {
-            let (rows, count, words) = (pointer(&images), asked.images.len(), asked.index_words);
-            iflughan_recover(k, c, m, pointer_mut(&mut lent), area.len(), rows, count, asked.s, asked.e, pointer_mut(&mut index), words)
-        };
+        let answer = calls::recover(Shape { k, c, m }, lent.content_mut(), images.content(), asked.s, asked.e, index.content_mut());
         self.count(answer.refusal)?;
         only_read(&images, asked.images, "the image rows")?;
         hold(answer.reserved == 0, "reserved is not 0")?;
@@ -150,10 +134,9 @@ impl Archive {
     /// The row question, and the payload's place, which must answer alike.
     pub fn row(&mut self, log: &Log, area: &[u8], row: [u64; 4]) -> Checked<Part> {
         let lent = Lent::new(area, AREA_GUARD);
-        let [id, slot, offset, length] = row;
-        let number = unsafe { iflughan_row_question(*log, pointer(&lent), area.len(), id, slot, offset, length) };
+        let number = calls::row_question(log, lent.content(), row);
         self.count(number)?;
-        let part = unsafe { iflughan_payload(*log, pointer(&lent), area.len(), id, slot, offset, length) };
+        let part = calls::payload(log, lent.content(), row);
         self.count(part.refusal)?;
         only_read(&lent, area, "the area")?;
         hold(number == part.refusal && part.reserved == 0, "the row question and the payload differ")?;
@@ -164,7 +147,7 @@ impl Archive {
     /// The answer and the buffer after it.
     pub fn name_write(&mut self, prefix: &[u8], id: u32, out: &[u8]) -> Checked<(Written, Vec<u8>)> {
         let (lent_prefix, mut lent) = (Lent::new(prefix, 0x3c), Lent::new(out, 0xc3));
-        let answer = unsafe { iflughan_name_write(pointer(&lent_prefix), prefix.len(), id, pointer_mut(&mut lent), out.len()) };
+        let answer = calls::name_write(lent_prefix.content(), id, lent.content_mut());
         self.count(answer.refusal)?;
         only_read(&lent_prefix, prefix, "the prefix")?;
         hold(answer.reserved == 0 && (answer.refusal == 0 || answer.length == 0), "not zeros beside the number")?;
@@ -173,7 +156,7 @@ impl Archive {
 
     pub fn name_parse(&mut self, prefix: &[u8], name: &[u8]) -> Checked<Parsed> {
         let (lent_prefix, lent_name) = (Lent::new(prefix, 0x3c), Lent::new(name, 0xc3));
-        let answer = unsafe { iflughan_name_parse(pointer(&lent_prefix), prefix.len(), pointer(&lent_name), name.len()) };
+        let answer = calls::name_parse(lent_prefix.content(), lent_name.content());
         self.count(answer.refusal)?;
         only_read(&lent_prefix, prefix, "the prefix")?;
         only_read(&lent_name, name, "the name")?;
@@ -183,7 +166,7 @@ impl Archive {
 
     pub fn decode(&mut self, input: &[u8]) -> Checked<Decoded> {
         let lent = Lent::new(input, 0xc3);
-        let answer = unsafe { iflughan_delta_decode(pointer(&lent), input.len()) };
+        let answer = calls::delta_decode(lent.content());
         self.count(answer.refusal)?;
         only_read(&lent, input, "the input")?;
         hold(answer.reserved == 0, "reserved is not 0")?;
@@ -194,7 +177,7 @@ impl Archive {
     /// The answer and the buffer after it.
     pub fn encode(&mut self, table: &Delta, values: &[u8], out: &[u8]) -> Checked<(Written, Vec<u8>)> {
         let (lent_values, mut lent) = (Lent::new(values, 0x3c), Lent::new(out, 0xc3));
-        let answer = unsafe { iflughan_delta_encode(*table, pointer(&lent_values), values.len(), pointer_mut(&mut lent), out.len()) };
+        let answer = calls::delta_encode(table, lent_values.content(), lent.content_mut());
         self.count(answer.refusal)?;
         only_read(&lent_values, values, "the values")?;
         hold(answer.reserved == 0 && (answer.refusal == 0 || answer.length == 0), "not zeros beside the number")?;

@@ -3,6 +3,7 @@
 
 use crate::archive::{hold, Archive, Checked, NO_LOG, NO_SEGMENT};
 use crate::ffi::{Log, Segment};
+use crate::lent::Lent;
 
 pub const CAPACITY: u64 = 8192;
 const SLOTS: u64 = 3;
@@ -124,13 +125,13 @@ fn refused_with_2(archive: &mut Archive, case: &str, log: &Log, area: &[u8]) -> 
 fn appends(archive: &mut Archive) -> Checked<()> {
     let (full, area) = four_records();
     // Its pages are not there until they are touched, and a refusal touches none.
-    let above_the_limit = vec![0; (1 << 30) + 1];
-    same("payload 2^30", archive.append_as_it_lies(&full, &area, &above_the_limit[1..])?.0.refusal, 7)?;
-    same("payload 2^30 + 1", archive.append_as_it_lies(&full, &area, &above_the_limit)?.0.refusal, 3)?;
+    let (at_the_limit, above_the_limit) = (Lent::zeros(1 << 30, 0x3c), Lent::zeros((1 << 30) + 1, 0x3c));
+    same("payload 2^30", archive.append_lent(&full, &area, &at_the_limit)?.0.refusal, 7)?;
+    same("payload 2^30 + 1", archive.append_lent(&full, &area, &above_the_limit)?.0.refusal, 3)?;
     let mut at_the_end = Log { start_live: u64::MAX, end_live: u64::MAX, count: 1, ..full };
     at_the_end.segments[0] = Segment { id: u32::MAX, slot: 1, size: 8192, min: u64::MAX, max: u64::MAX };
     at_the_end.segments[1] = NO_SEGMENT;
-    same("3 before 4", archive.append_as_it_lies(&at_the_end, &area, &above_the_limit)?.0.refusal, 3)?;
+    same("3 before 4", archive.append_lent(&at_the_end, &area, &above_the_limit)?.0.refusal, 3)?;
     same("live end 2^64 - 1", archive.append(&at_the_end, &area, b"")?.0.refusal, 4)?;
     let mut last_segment = full;
     (last_segment.segments[0].id, last_segment.segments[1].id) = (u32::MAX - 1, u32::MAX);

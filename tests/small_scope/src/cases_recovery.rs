@@ -103,7 +103,14 @@ const IMAGES: [Case; 22] = [
     ("length above 2^30", 18, |it| put_header(&mut it.area, 2, 0, (1 << 30) + 1, 6)),
     ("length above 2^30 beyond e", 18, |it| put_header(&mut it.area, 0, 4096, u32::MAX, 9)),
     ("18 before 19", 18, |it| put_header(&mut it.area, 2, 4096, u32::MAX, 9)),
-    ("first record id 0", 19, |it| put_header(&mut it.area, 2, 0, 3, 0)),
+    // The next record has id 1, and both are before s: nothing but the rule for 0 can see it.
+    ("first record id 0", 19, |it| {
+        put_header(&mut it.area, 2, 0, 3, 0);
+        put_header(&mut it.area, 2, 4096, 3, 1);
+        put_header(&mut it.area, 0, 0, 3, 2);
+        put_header(&mut it.area, 0, 4096, 3, 3);
+        (it.s, it.e) = (2, 2)
+    }),
     ("an id twice", 19, |it| put_header(&mut it.area, 2, 4096, 3, 6)),
     ("a gap in an image", 19, |it| put_header(&mut it.area, 2, 4096, 3, 8)),
     ("a gap over the border", 19, |it| {

@@ -2,13 +2,18 @@
 //! The last line counts states, calls and refusal numbers; at the first difference it is the difference, with its history before it.
 
 mod archive;
+#[path = "../../../oracle/src/calls.rs"]
+mod calls;
 mod cases_deltas;
 mod cases_logs;
 mod cases_names;
 mod cases_recovery;
+mod cases_sizes;
 mod demand;
+#[allow(dead_code)]
 #[path = "../../../bindings/rust/src/ffi.rs"]
 mod ffi;
+mod hazards;
 #[path = "../../../oracle/src/lent.rs"]
 mod lent;
 mod model;
@@ -22,6 +27,7 @@ const CAPACITY: u64 = 8192;
 const SOFT_SIZES: [u64; 3] = [8192, 4096, 0];
 
 fn main() {
+    lent::watch_accesses();
     let longest = std::env::args().nth(1).map_or(5, |word| word.parse().expect("the longest history"));
     match everything(longest) {
         Ok(true) => (),
@@ -43,6 +49,8 @@ fn everything(longest: usize) -> Checked<bool> {
     cases_recovery::run(&mut cases)?;
     cases_names::run(&mut cases)?;
     cases_deltas::run(&mut cases)?;
+    cases_sizes::run(&mut cases)?;
+    hazards::run(&mut cases)?;
     let (reached, all) = (table(&histories, &cases), refusal_numbers().count());
     println!("{states} states, {} calls, {reached} of {all} refusals reached, 0 differences", histories.calls + cases.calls);
     Ok(reached == all)

@@ -1,0 +1,85 @@
+"""The folders that ./iflughan list is run on: what is in each, the range asked for, the last line, and what is named above it."""
+import os
+import random
+import struct
+
+PAGE = 4096
+
+
+def record(number, payload=b"abc"):
+    """A record's bytes: length, id, payload, zeros to the next page."""
+    whole = struct.pack("<IQ", len(payload), number) + payload
+    return whole + bytes(-len(whole) % PAGE)
+
+
+def records(first, last):
+    return b"".join(record(number) for number in range(first, last + 1))
+
+
+def name(number):
+    return f"scans.{number:010}.log"
+
+
+def noise(size, seed=1):
+    return random.Random(seed).randbytes(size)
+
+
+# What is no file of bytes: a function that makes it.
+FOLDER, PIPE = os.mkdir, os.mkfifo
+NOWHERE = lambda path: os.symlink("nowhere", path)
+
+ONE, TWO = records(1, 2), records(3, 4)
+WHOLE = {name(1): ONE, name(2): TWO}
+STRANGE = "refused: not all that is there belongs to the log, as said above"
+
+# what: (files, range, last line, names said above it)
+FOLDERS = {
+    "two segments": (WHOLE, "", "ok 4 records in 2 images", []),
+    "segments from 7 on": ({name(7): ONE, name(8): TWO}, "", "ok 4 records in 2 images", []),
+    "a range": (WHOLE, "2 3", "ok 2 records in 2 images", []),
+    "the empty range": (WHOLE, "0 0", "ok 0 records in 2 images", []),
+    "another prefix beside it": ({**WHOLE, "other.0000000009.log": noise(9)}, "", "ok 4 records in 2 images", []),
+    "an empty segment": ({name(1): b""}, "", "ok 0 records in 1 images", []),
+    "an empty segment at the end": ({name(1): ONE, name(2): b""}, "", "ok 2 records in 2 images", []),
+    "64 segments": ({name(i): record(i) for i in range(1, 65)}, "", "ok 64 records in 64 images", []),
+    "a plus sign": ({"scans.+000000001.log": ONE, name(2): TWO}, "", "ok 4 records in 2 images", []),
+    "no file": ({}, "", "refused: the folder has no file of this prefix", []),
+    "a gap": ({name(1): ONE, name(2): TWO, name(4): records(5, 6)}, "", STRANGE, [name(4)]),
+    "70 segments": ({name(i): record(i) for i in range(1, 71)}, "", STRANGE, [name(i) for i in range(65, 71)]),
+    "1280 records in 5 MiB": ({name(1): records(1, 1280)}, "", STRANGE, [name(1)]),
+    "a record of 5 MB": ({name(1): record(1, bytes(5000000))}, "", STRANGE, [name(1)]),
+    "too large together": ({name(i): bytes(200000) for i in (1, 2, 3)}, "", STRANGE, [name(i) for i in (1, 2, 3)]),
+    "a folder": ({name(1): ONE, name(2): FOLDER}, "", STRANGE, [name(2)]),
+    "a pipe": ({name(1): ONE, name(2): PIPE}, "", STRANGE, [name(2)]),
+    "a link to nowhere": ({name(1): NOWHERE}, "", STRANGE, [name(1)]),
+    "a copy beside it": ({**WHOLE, name(2) + ".bak": TWO}, "", STRANGE, [name(2) + ".bak"]),
+    "nine digits": ({"scans.000000001.log": ONE}, "", STRANGE, ["scans.000000001.log"]),
+    "a line end in a name": ({name(1): ONE, name(2) + "\n": TWO}, "", STRANGE, [name(2) + "?"]),
+    "segment 0": ({name(0): ONE, name(1): TWO}, "", STRANGE, [name(0)]),
+    "one segment twice": ({"scans.+000000001.log": ONE, name(1): ONE}, "", STRANGE, ["scans.+000000001.log", name(1)]),
+    "random bytes": ({name(1): noise(5000)}, "", "refused 20 in the image said above", [name(1)]),
+    "other random bytes": ({name(1): noise(5000, 2)}, "", "refused 18 in the image said above", [name(1)]),
+    "zeros": ({name(1): bytes(5000)}, "", "refused 19 in the image said above", [name(1)]),
+    "cut in a header": ({name(1): ONE, name(2): TWO[: PAGE + 9]}, "", "refused 17 in the image said above", [name(2)]),
+    "cut in a payload": ({name(1): ONE, name(2): TWO[: PAGE + 14]}, "", "refused 20 in the image said above", [name(2)]),
+    "cut in the padding": ({name(1): ONE, name(2): TWO[: PAGE + 15]}, "", "ok 4 records in 2 images", []),
+    "cut behind the range": ({name(1): ONE, name(2): TWO[: PAGE + 14]}, "1 3", "ok 3 records in 2 images", []),
+    "a record missing inside": ({name(1): record(1) + record(3)}, "", "refused 19 in the image said above", [name(1)]),
+    "a record missing between": ({name(1): ONE, name(2): records(4, 5)}, "", "refused 19 recovering 1 to 5", []),
+    "an empty segment first": ({name(1): b"", name(2): ONE}, "", "refused 16 recovering 1 to 2", []),
+    "a range behind the end": (WHOLE, "3 5", "refused 22 recovering 3 to 5", []),
+    "a range that falls": (WHOLE, "3 2", "refused 12 recovering 3 to 2", []),
+    "one end is 0": (WHOLE, "0 2", "refused 11 recovering 0 to 2", []),
+}
+
+
+def make(path, files):
+    """The folder, with these files."""
+    os.mkdir(path)
+    for file, content in files.items():
+        at = os.path.join(path, file)
+        if callable(content):
+            content(at)
+        else:
+            with open(at, "wb") as out:
+                out.write(content)

@@ -1,0 +1,167 @@
+//! The calls of oracle/src/calls.rs with one error, which IFLUGHAN_WRONG names: tests/wrong_libraries/run lays this file in that one's
+//! place. Errors that library and model share are made by shared_calls.rs and shared.py.
+
+#![allow(dead_code)]
+
+#[path = "right_calls.rs"]
+mod right;
+
+pub use right::*;
+
+use crate::ffi::*;
+use std::sync::OnceLock;
+
+/// Whether this is the error of the run.
+pub fn wrong(name: &str) -> bool {
+    static CHOSEN: OnceLock<String> = OnceLock::new();
+    CHOSEN.get_or_init(|| std::env::var("IFLUGHAN_WRONG").unwrap_or_default()) == name
+}
+
+/// Reads a byte just outside a slice.
+fn read_outside<T>(slice: &[T], before: bool) {
+    let bytes = slice.as_ptr() as *const u8;
+    let at = if before { bytes.wrapping_sub(1) } else { bytes.wrapping_add(std::mem::size_of_val(slice)) };
+    unsafe { at.read_volatile() };
+}
+
+/// A refusal in place of an acceptance; the bytes were written all the same.
+fn refused_append(log: &Log, refusal: u32) -> Appended {
+    Appended { refusal, reserved: 0, id: 0, log: *log }
+}
+
+pub fn new(shape: Shape, area: &mut [u8]) -> Logged {
+    let refused = wrong("k_64_is_1") && shape.k == 64 || wrong("c_2_31_is_1") && shape.c == 1 << 31;
+    if refused {
+        return Logged { refusal: 1, reserved: 0, log: NO_LOG };
+    }
+    right::new(shape, area)
+}
+
+/// An id that a counter of some width would stumble over.
+fn id_not_reached(next: u64) -> bool {
+    let borders = [("id_2_31_is_4", 1 << 31), ("id_2_32_is_4", 1 << 32), ("id_2_63_is_4", 1 << 63)];
+    let below = [("id_below_2_31_is_4", 1 << 31), ("id_below_2_32_is_4", 1 << 32), ("id_below_2_63_is_4", 1 << 63)];
+    borders.iter().any(|(name, id)| next == *id && wrong(name)) || below.iter().any(|(name, id)| next == *id - 1 && wrong(name))
+}
+
+pub fn append(log: &Log, area: &mut [u8], payload: &[u8]) -> Appended {
+    if wrong("append_reads_before_its_payload") && !payload.is_empty() {
+        read_outside(payload, true);
+    }
+    let answer = right::append(log, area, payload);
+    let new_segment = answer.log.count > log.count;
+    if answer.refusal == 0 && (wrong("segment_9_is_6") && new_segment && log.count == 8) {
+        return refused_append(log, 6);
+    }
+    if answer.refusal == 0 && (wrong("payload_above_65535_is_7") && payload.len() > 65_535) {
+        return refused_append(log, 7);
+    }
+    if answer.refusal == 0 && id_not_reached(answer.id) {
+        return refused_append(log, 4);
+    }
+    if answer.refusal == 0 && wrong("header_length_at_16_bits") && payload.len() > 65_535 {
+        let head = answer.log.segments[answer.log.count as usize - 1];
+        let record = (12 + payload.len() as u64).div_ceil(4096) * 4096;
+        let at = (head.slot as u64 * log.capacity + head.size - record) as usize;
+        area[at + 2..at + 4].fill(0);
+    }
+    answer
+}
+
+pub fn prune_oldest(log: &Log, area: &mut [u8], new_start_live: u64) -> Logged {
+    right::prune_oldest(log, area, new_start_live)
+}
+
+pub fn prune_recent(log: &Log, area: &mut [u8], new_end_live: u64) -> Logged {
+    if wrong("cut_reads_past_the_area") {
+        read_outside(area, false);
+    }
+    right::prune_recent(log, area, new_end_live)
+}
+
+fn refused_recovery(refusal: u32) -> Recovered {
+    Recovered { refusal, reserved: 0, rows: 0, log: NO_LOG }
+}
+
+pub fn recover(shape: Shape, area: &mut [u8], images: &[Image], s: u64, e: u64, index: &mut [u64]) -> Recovered {
+    if wrong("recovery_reads_past_its_rows") {
+        read_outside(images, false);
+    }
+    if wrong("row_64_is_13") && images.len() == 64 {
+        return refused_recovery(13);
+    }
+    if wrong("index_words_at_16_bits") {
+        let words = index.len() % 65_536;
+        return right::recover(shape, area, images, s, e, &mut index[..words]);
+    }
+    let answer = right::recover(shape, area, images, s, e, index);
+    if answer.refusal == 0 && answer.rows > 64 && wrong("live_record_65_is_23") {
+        return refused_recovery(23);
+    }
+    for row in index.chunks_exact_mut(4).take(answer.rows as usize) {
+        if wrong("row_offset_at_16_bits") {
+            row[2] %= 65_536;
+        }
+        if wrong("row_length_at_16_bits") {
+            row[3] %= 65_536;
+        }
+        if wrong("row_offset_at_31_bits") {
+            row[2] %= (1 << 31) - 4096;
+        }
+    }
+    answer
+}
+
+pub fn row_question(log: &Log, area: &[u8], row: [u64; 4]) -> u32 {
+    right::row_question(log, area, row)
+}
+
+pub fn payload(log: &Log, area: &[u8], row: [u64; 4]) -> Part {
+    let mut part = right::payload(log, area, row);
+    if wrong("place_at_32_bits") {
+        part.at %= 1 << 32;
+    }
+    part
+}
+
+pub fn name_write(prefix: &[u8], id: u32, out: &mut [u8]) -> Written {
+    if wrong("prefix_of_256_is_36") && prefix.len() == 256 {
+        return Written { refusal: 36, ..NO_WRITTEN };
+    }
+    right::name_write(prefix, id, out)
+}
+
+pub fn name_parse(prefix: &[u8], name: &[u8]) -> Parsed {
+    if wrong("prefix_of_128_is_31") && prefix.len() == 128 && right::name_parse(prefix, name).refusal != 30 {
+        return Parsed { refusal: 31, id: 0 };
+    }
+    if wrong("parse_reads_past_its_name") {
+        read_outside(name, false);
+    }
+    right::name_parse(prefix, name)
+}
+
+pub fn delta_decode(input: &[u8]) -> Decoded {
+    let mut answer = right::delta_decode(input);
+    for row in &mut answer.table.rows[..answer.table.count as usize] {
+        if wrong("value_above_65535_is_40") && row.length > 65_535 {
+            return Decoded { refusal: 40, reserved: 0, consumed: 0, table: NO_DELTA };
+        }
+        if wrong("value_length_at_16_bits") {
+            row.length %= 65_536;
+        }
+        if wrong("value_offset_at_16_bits") {
+            row.offset %= 65_536;
+        }
+    }
+    answer
+}
+
+pub fn delta_encode(table: &Delta, values: &[u8], out: &mut [u8]) -> Written {
+    if wrong("encoded_offset_at_16_bits") {
+        let mut narrow = *table;
+        narrow.rows.iter_mut().filter(|row| row.offset < values.len() as u64).for_each(|row| row.offset %= 65_536);
+        return right::delta_encode(&narrow, values, out);
+    }
+    right::delta_encode(table, values, out)
+}
