@@ -11,15 +11,15 @@
 #include <stdlib.h>
 #include <string.h>
 
-enum { K = 2, C = 8192, M = C, PAGE = 4096, INDEX_WORDS = 4 * K * C / PAGE };
+enum { K = 2, C = 8192, M = C, PAGE = IFLUGHAN_PAGE_LENGTH, ROWS = K * C / PAGE };
 
 static uint8_t area[K * C];
-static uint64_t row_index[INDEX_WORDS];
+static iflughan_index_row rows[ROWS];
 
 /* Ends the program where a call did not answer the wanted number. */
 static void answered(uint32_t refusal, uint32_t wanted, const char *call) {
     if (refusal == wanted) return;
-    printf("refused %" PRIu32 " where %" PRIu32 " was wanted: %s\n", refusal, wanted, call);
+    printf("refused %" PRIu32 " (%s) where %" PRIu32 " was wanted: %s\n", refusal, iflughan_refusal_text(refusal), wanted, call);
     exit(1);
 }
 
@@ -55,7 +55,7 @@ static iflughan_recovered recover(const iflughan_log *log, uint64_t s, uint64_t 
         const iflughan_segment *segment = &log->segments[i];
         images[i] = (iflughan_image){segment->id, segment->slot, segment->size};
     }
-    return iflughan_recover(K, C, M, area, sizeof area, images, log->count, s, e, row_index, INDEX_WORDS);
+    return iflughan_recover(K, C, M, area, sizeof area, images, log->count, s, e, (uint64_t *)rows, ROWS * IFLUGHAN_ROW_WORDS);
 }
 
 /* A line for the log and one for each index row: record id, slot, offset of the payload, its length. */
@@ -63,8 +63,8 @@ static void print_recovered(const iflughan_recovered *answer) {
     const iflughan_log *log = &answer->log;
     printf("kept %" PRIu64 " live %" PRIu64 " %" PRIu64 "\n", log->count, log->start_live, log->end_live);
     for (size_t i = 0; i < answer->rows; i++) {
-        const uint64_t *row = &row_index[4 * i];
-        printf("%" PRIu64 " %" PRIu64 " %" PRIu64 " %" PRIu64 "\n", row[0], row[1], row[2], row[3]);
+        const iflughan_index_row *row = &rows[i];
+        printf("%" PRIu64 " %" PRIu64 " %" PRIu64 " %" PRIu64 "\n", row->id, row->slot, row->offset, row->length);
     }
 }
 
@@ -90,7 +90,7 @@ static iflughan_log specimen_13_rest(iflughan_log log) {
     printf("third append: slot %" PRIu32 "\n", log.segments[1].slot);
     log = append(log, "");
     iflughan_appended fifth = iflughan_append(log, area, sizeof area, NULL, 0);
-    answered(fifth.refusal, 6, "fifth append");
+    answered(fifth.refusal, IFLUGHAN_SLOTS_TAKEN, "fifth append");
     printf("fifth append: refused %" PRIu32 "\n", fifth.refusal);
     return log;
 }
@@ -109,8 +109,8 @@ static void specimen_14(iflughan_log log) {
     print_recovered(&middle);
     printf("head size %" PRIu64 "\n", middle.log.segments[1].size);
 
-    answered(recover(&log, 3, 5).refusal, 22, "recover 3..5");
-    answered(recover(&log, 0, 3).refusal, 11, "recover 0..3");
+    answered(recover(&log, 3, 5).refusal, IFLUGHAN_END_NOT_FOUND, "recover 3..5");
+    answered(recover(&log, 0, 3).refusal, IFLUGHAN_ONE_END_ZERO, "recover 0..3");
     printf("recover 3..5: refused 22\nrecover 0..3: refused 11\n");
 }
 

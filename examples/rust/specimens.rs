@@ -2,7 +2,7 @@
 //!
 //! `specimens` runs both; the last line is `ok ..`, or what came instead of document 01's answer: `refused N ..`, `wrong ..`.
 //! `specimens 13` writes specimen 13's three lines and nothing else. `./iflughan examples` builds and runs it.
-use iflughan::{Log, RecoveryRefused, Refusal, Shape};
+use iflughan::{Error, Log, RecoveryRefused, Refusal, Shape};
 
 const SHAPE: Shape = Shape {
     slots: 2,
@@ -12,19 +12,14 @@ const SHAPE: Shape = Shape {
 const PAGE: usize = 4096;
 
 enum Wrong {
-    Refused(Refusal),
+    Failed(Error),
     Fact(&'static str),
 }
 
-impl From<Refusal> for Wrong {
-    fn from(refusal: Refusal) -> Wrong {
-        Wrong::Refused(refusal)
-    }
-}
-
-impl From<RecoveryRefused> for Wrong {
-    fn from(refused: RecoveryRefused) -> Wrong {
-        Wrong::Refused(refused.refusal)
+/// A refusal, a refused recovery: whatever is an error.
+impl<E: Into<Error>> From<E> for Wrong {
+    fn from(error: E) -> Wrong {
+        Wrong::Failed(error.into())
     }
 }
 
@@ -79,7 +74,7 @@ fn specimen_13_rest(log: &mut Log) -> Result<(), Wrong> {
     println!("third append: slot {slot}");
     log.append(b"")?;
     holds(
-        log.append(b"") == Err(Refusal::SlotsTaken),
+        log.append(b"") == Err(Error::Refused(Refusal::SlotsTaken)),
         "a fifth one-page append meets 6",
     )?;
     println!("fifth append: refused {}", Refusal::SlotsTaken.number());
@@ -114,7 +109,8 @@ fn specimen_14(log: &Log) -> Result<(), Wrong> {
     for (s, e, number) in [(3, 5, 22), (0, 3, 11)] {
         let refused = recover(log, s, e)
             .err()
-            .map(|refused| refused.refusal.number());
+            .and_then(|refused| refused.error.refusal())
+            .map(Refusal::number);
         holds(refused == Some(number), "range 3..5: 22, range 0..3: 11")?;
         println!("recover {s}..{e}: refused {number}");
     }
@@ -136,7 +132,10 @@ fn main() {
     let only_13 = std::env::args().nth(1).as_deref() == Some("13");
     match run(only_13) {
         Ok(()) => return,
-        Err(Wrong::Refused(refusal)) => println!("refused {} {refusal}", refusal.number()),
+        Err(Wrong::Failed(Error::Refused(refusal))) => {
+            println!("refused {} {refusal}", refusal.number())
+        }
+        Err(Wrong::Failed(error)) => println!("wrong: {error}"),
         Err(Wrong::Fact(what)) => println!("wrong: {what}"),
     }
     std::process::exit(1);

@@ -1,9 +1,12 @@
 //! One safe function for each function of the archive: slices in place of pointers and lengths, a `Result` in place of the number.
 //!
-//! They work on a log value and an area that the caller holds; [`crate::Log`] holds both for you. They are safe for any argument:
-//! the archive is proved to stay inside what it is lent, whatever the log value says, and Rust keeps the lent slices apart.
+//! They allocate nothing, and work on a log value and an area that the caller holds; [`crate::Log`] holds both for you. They are safe
+//! for any argument: the archive is proved to stay inside what it is lent, whatever the log value says, and Rust keeps the lent slices
+//! apart.
 use crate::ffi::{self, Image};
 use crate::{Refusal, Row, Shape};
+
+const ROW_WORDS: usize = 4;
 
 /// The answer where the number is 0, else the refusal.
 fn accepted<T>(number: u32, answer: T) -> Result<T, Refusal> {
@@ -67,7 +70,7 @@ pub fn prune_recent(
     accepted(answer.refusal, answer.log)
 }
 
-/// The log of the records s..e from images in the area, and how many index rows of four words were written; refuses with 1 and 11
+/// The log of the records s..e from images in the area, and how many rows were written, from the first on; refuses with 1 and 11
 /// to 23.
 pub fn recover(
     shape: Shape,
@@ -75,9 +78,9 @@ pub fn recover(
     images: &[Image],
     s: u64,
     e: u64,
-    index: &mut [u64],
+    rows: &mut [Row],
 ) -> Result<(u64, ffi::Log), Refusal> {
-    // SAFETY: the three pointers are good for their lengths and aligned, and a `&mut` overlaps nothing.
+    // SAFETY: the three pointers are good for their lengths and aligned, and a `&mut` overlaps nothing; a row is four words.
     let answer = unsafe {
         ffi::iflughan_recover(
             shape.slots,
@@ -89,8 +92,8 @@ pub fn recover(
             images.len(),
             s,
             e,
-            index.as_mut_ptr(),
-            index.len(),
+            rows.as_mut_ptr().cast::<u64>(),
+            rows.len() * ROW_WORDS,
         )
     };
     accepted(answer.refusal, (answer.rows, answer.log))

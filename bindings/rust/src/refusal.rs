@@ -1,9 +1,9 @@
 //! Document 01's refusals: the only list of numbers and words in this crate.
-use std::fmt;
+use core::fmt;
 
 macro_rules! refusals {
     ($($number:literal $name:ident $words:literal;)*) => {
-        /// Why a call was refused. A refused call has changed nothing. [`std::fmt::Display`] prints document 01's words.
+        /// Why a call was refused. A refused call has changed nothing. [`core::fmt::Display`] prints document 01's words.
         ///
         /// ```
         /// use iflughan::Refusal;
@@ -70,7 +70,7 @@ refusals! {
     21 StartNotFound "s not found";
     22 EndNotFound "e not found";
     23 IndexShort "fewer than 4 index words for each live record";
-    24 RowOutside "slot >= K, or offset + length above C as whole numbers";
+    24 RowOutside "row asked for: slot >= K, or offset + length above C as whole numbers";
     30 EmptyPrefix "empty prefix";
     31 PrefixMissing "prefix missing";
     32 SuffixMissing ".log missing";
@@ -91,4 +91,5 @@ impl fmt::Display for Refusal {
     }
 }
 
+#[cfg(feature = "std")]
 impl std::error::Error for Refusal {}

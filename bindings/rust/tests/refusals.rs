@@ -1,6 +1,6 @@
 //! What is refused comes back as document 01's refusal, and nothing has changed.
 use iflughan::delta::{self, Entry};
-use iflughan::{calls, names, Log, Refusal, Row, Shape};
+use iflughan::{calls, names, Error, Log, Refusal, Row, Shape};
 
 const SHAPE: Shape = Shape {
     slots: 2,
@@ -25,20 +25,43 @@ fn refusal_1_shape_outside_the_rules() {
         (64, 1 << 32, 0),
         (u64::MAX, u64::MAX, 0),
     ] {
-        let refused = Log::new(Shape {
+        let shape = Shape {
             slots,
             capacity,
             soft_size,
-        });
-        assert_eq!(refused, Err(Refusal::OutsideRules));
+        };
+        assert_eq!(shape.area_length(), Err(Refusal::OutsideRules));
+        assert_eq!(Log::new(shape), Err(Refusal::OutsideRules.into()));
     }
+}
+
+/// The wrapper's test of the numbers, made before memory is asked for, is the archive's.
+#[test]
+fn area_length_is_refused_where_a_new_log_is() {
+    let mut accepted = 0;
+    for slots in [0, 1, 2, 64, 65] {
+        for capacity in [0, 1, 4095, 4096, 4097, 8192] {
+            for soft_size in [0, 1, 4096, 4097, 8192, 8193] {
+                let shape = Shape {
+                    slots,
+                    capacity,
+                    soft_size,
+                };
+                let length = usize::try_from(slots * capacity).unwrap();
+                let answer = calls::new(shape, &mut vec![0; length]).map(|_| length);
+                assert_eq!(shape.area_length(), answer);
+                accepted += answer.iter().count();
+            }
+        }
+    }
+    assert!(accepted > 0);
 }
 
 #[test]
 fn refused_appends_and_prunes_change_nothing() {
     let mut log = two_records();
     let before = log.clone();
-    assert_eq!(log.append(&[0; 8192]), Err(Refusal::RecordTooLong));
+    assert_eq!(log.append(&[0; 8192]), Err(Refusal::RecordTooLong.into()));
     assert_eq!(log.prune_oldest(3), Err(Refusal::PruneAboveLiveEnd));
     assert_eq!(log.prune_recent(3), Err(Refusal::PruneAboveLiveEnd));
     assert_eq!(log, before);
@@ -58,7 +81,7 @@ fn refused_recovery_hands_the_area_back() {
         (1, u64::MAX, Refusal::EndNotFound),
     ] {
         let refused = Log::recover(SHAPE, log.area().to_vec(), &log.images(), s, e).unwrap_err();
-        assert_eq!(refused.refusal, refusal);
+        assert_eq!(refused.error, Error::Refused(refusal));
         assert_eq!(refused.area, log.area());
     }
 }
@@ -67,9 +90,10 @@ fn refused_recovery_hands_the_area_back() {
 fn refusals_2_23_and_24_of_the_plain_calls() {
     let log = two_records();
     let mut area = log.area().to_vec();
-    let mut index = [7; 7];
-    let short = calls::recover(SHAPE, &mut area, &log.images(), 1, 2, &mut index);
-    assert_eq!((short, index), (Err(Refusal::IndexShort), [7; 7]));
+    let untouched = [Row::default(); 1];
+    let mut rows = untouched;
+    let short = calls::recover(SHAPE, &mut area, &log.images(), 1, 2, &mut rows);
+    assert_eq!((short, rows), (Err(Refusal::IndexShort), untouched));
 
     let row = Row {
         id: 1,
@@ -105,19 +129,24 @@ fn refusals_of_deltas() {
         value: None,
     };
     let too_many: Vec<Entry> = (0..=256).map(|i| entry(i as u8)).collect();
-    assert_eq!(delta::encode(&too_many), Err(Refusal::TableOutside));
-    assert_eq!(
-        delta::encode(&[entry(1), entry(1)]),
-        Err(Refusal::DuplicateKey)
-    );
-    assert_eq!(delta::decode(&[1, 0, 0, 0]), Err(Refusal::InputEndsEarly));
-    assert_eq!(delta::decode(&[1, 1, 0, 0]), Err(Refusal::TooManyKeys));
+    for (entries, refusal) in [
+        (&too_many[..], Refusal::TableOutside),
+        (&[entry(1), entry(1)], Refusal::DuplicateKey),
+    ] {
+        assert_eq!(delta::encode(entries), Err(refusal.into()));
+    }
+    for (input, refusal) in [
+        ([1, 0, 0, 0], Refusal::InputEndsEarly),
+        ([1, 1, 0, 0], Refusal::TooManyKeys),
+    ] {
+        assert_eq!(delta::decode(&input), Err(refusal.into()));
+    }
     assert_eq!(delta::encode(&[]), Ok(vec![0; 8]));
 }
 
 #[test]
 fn refusals_of_names() {
-    assert_eq!(names::write("", 1), Err(Refusal::EmptyPrefix));
+    assert_eq!(names::write("", 1), Err(Refusal::EmptyPrefix.into()));
     assert_eq!(
         calls::name_write(b"a", 1, &mut [0; 15]),
         Err(Refusal::NameBufferShort)
@@ -137,5 +166,20 @@ fn refusals_of_names() {
 fn numbers_and_refusals_go_both_ways() {
     for refusal in Refusal::ALL {
         assert_eq!(Refusal::from_number(refusal.number()), Some(*refusal));
+    }
+}
+
+#[test]
+fn errors_say_the_words_of_their_refusal() {
+    let refusal = Refusal::EndNotFound;
+    let log = two_records();
+    let refused = Log::recover(SHAPE, log.area().to_vec(), &log.images(), 1, 3).unwrap_err();
+    let errors: [Box<dyn std::error::Error>; 3] = [
+        Box::new(refusal),
+        Box::new(Error::from(refusal)),
+        Box::new(refused),
+    ];
+    for error in errors {
+        assert_eq!(error.to_string(), "e not found");
     }
 }
