@@ -40,13 +40,7 @@ fn number(step: Step) -> u32
 fn no_segments() -> [Segment; 64]
     ensures { λ r. ⌜ r ≡ replicate 64 noSegment ⌝ }
 {
-    let none = Segment {
-        id: 0,
-        slot: 0,
-        size: 0,
-        min: 0,
-        max: 0,
-    };
+    let none = segment::no_segment();
     let segs = [none; 64];
     segs
 }

@@ -6,13 +6,7 @@ use segment::Segment;
 
 // A well-shaped log of one segment, of one page, with one record.
 fn made_up(segment: u32, record: u64) -> Log {
-    let none = Segment {
-        id: 0,
-        slot: 0,
-        size: 0,
-        min: 0,
-        max: 0,
-    };
+    let none = segment::no_segment();
     let mut segs = [none; 64];
     segs[0] = Segment {
         id: segment,
