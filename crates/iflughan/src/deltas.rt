@@ -1,12 +1,13 @@
 // Deltas across the C interface: the library's table as rows of numbers and back, and the answers as numbers.
 ghost use mathlib.Core.Path.{_≡_};
-ghost use Rattle.delta.specs.Reading.{decodedOf};
+ghost use Rattle.delta.specs.Reading.{decodeOutcome, decodedOf};
 ghost use Rattle.delta_encode.specs.Bytes.{encodeOutcome, encodedOf, afterOf};
 ghost use Rattle.iflughan.specs.Deltas.{tableIn, markOf, tableOut, decodedDelta, writtenDelta};
 use crate::DecodedDelta;
 use crate::Delta;
 use crate::DeltaRow;
 use crate::Written;
+use delta::Decoded;
 use delta::Row;
 use delta::Table;
 use delta_encode::Encoded;
@@ -87,6 +88,20 @@ fn table_out(t: Table) -> Delta
     }
 }
 
+// The answer of `decode` as numbers.
+fn decoded_delta(decoded: Decoded) -> DecodedDelta
+    ensures { λ r. ⌜ r ≡ decodedDelta (decodeOutcome decoded) ⌝ }
+{
+    let answer = decoded.answer;
+    let table = decoded.table;
+    DecodedDelta {
+        refusal: delta::decoding_number(answer),
+        reserved: 0,
+        consumed: delta::decoding_consumed(answer),
+        table: table_out(table),
+    }
+}
+
 // The answer of `encode` as numbers.
 fn written_delta(answer: Encoded) -> Written
     ensures { λ r. ⌜ r ≡ writtenDelta (encodeOutcome answer) ⌝ }
@@ -103,15 +118,7 @@ fn written_delta(answer: Encoded) -> Written
 pub extern "C" fn iflughan_delta_decode(input: &[u8]) -> DecodedDelta
     ensures { λ r. ⌜ r ≡ decodedDelta (decodedOf 256 (now (input .entry))) ⌝ }
 {
-    let decoded = delta::decode(input);
-    let answer = decoded.answer;
-    let table = decoded.table;
-    DecodedDelta {
-        refusal: delta::decoding_number(answer),
-        reserved: 0,
-        consumed: delta::decoding_consumed(answer),
-        table: table_out(table),
-    }
+    decoded_delta(delta::decode(input))
 }
 
 // Writes the delta of a table at the front of out, and answers its length; 43, 42, 44.

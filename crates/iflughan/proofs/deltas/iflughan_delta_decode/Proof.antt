@@ -6,24 +6,7 @@ use Rattle.iflughan.proofs.deltas.iflughan_delta_decode.Statement.{stat
 use Rattle.iflughan.proofs.deltas.iflughan_delta_decode.Tie as tie
 
 returns : tie.Need-returns
-unfolding decodedDelta
-returns c =
-    let n = c .before .before in
-    let d = n .before .before .decode in
-    (λ i. record {
-      refusal = n .decoding-number .ensures i;
-      reserved = 0;
-      consumed = c .before .decoding-consumed .ensures i;
-      table = c .table-out .ensures i;
-    })
-    ∙ ap decodedDelta (d .ensures)
+returns c = c .decoded-delta .ensures ∙ ap decodedDelta (c .before .decode .ensures)
 
 pub iflughan-delta-decode-spec : {M : Type 1} → statement M
-iflughan-delta-decode-spec =
-    tie.close
-    (tie.spec
-    (λ c κs. tt)
-    (λ c κs. tt)
-    (λ c κs. tt)
-    (λ c κs. tt)
-    returns)
+iflughan-delta-decode-spec = tie.close (tie.spec (λ c κs. tt) (λ c κs. tt) returns)
