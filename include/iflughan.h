@@ -87,8 +87,8 @@ extern "C" {
 #define IFLUGHAN_STACK_PAYLOAD 8192
 #define IFLUGHAN_STACK_NAME_WRITE 1024
 #define IFLUGHAN_STACK_NAME_PARSE 1024
-#define IFLUGHAN_STACK_DELTA_DECODE 229376 /* 224 KiB: copies of the table */
-#define IFLUGHAN_STACK_DELTA_ENCODE 180224 /* 176 KiB: copies of the table */
+#define IFLUGHAN_STACK_DELTA_DECODE 90112 /* 88 KiB: copies of the table */
+#define IFLUGHAN_STACK_DELTA_ENCODE 90112 /* 88 KiB: copies of the table */
 
 /* ---- refusals, in words: iflughan_refusal_text, at the end */
 enum {
