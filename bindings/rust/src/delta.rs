@@ -1,6 +1,6 @@
 //! Deltas: for each key what it held before a commit.
 //!
-//! Encoding and decoding take up to 240 KiB of stack, 320 KiB without optimization: the archive's table is handed on by value.
+//! Encoding and decoding take up to 144 KiB of stack, 192 KiB without optimization: the archive's table is handed on by value.
 use crate::{calls, ffi, memory, Error, Refusal};
 use alloc::vec::Vec;
 use core::fmt;

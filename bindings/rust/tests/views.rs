@@ -125,6 +125,6 @@ fn deltas_fit_a_small_thread() {
         let bytes = encode(&entries).unwrap();
         assert_eq!(decode(&bytes).unwrap().entries, entries);
     };
-    let thread = std::thread::Builder::new().stack_size(384 << 10);
+    let thread = std::thread::Builder::new().stack_size(224 << 10);
     thread.spawn(work).unwrap().join().unwrap();
 }
