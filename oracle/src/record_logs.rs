@@ -11,6 +11,8 @@ use crate::rng::Rng;
 use crate::table::hex;
 
 const HISTORIES: u64 = 120;
+/// After how many histories one meets a payload above 2^30 bytes.
+const TOO_LONG_EVERY: u64 = 20;
 /// The largest area of a recorded history.
 const LARGEST_AREA: u64 = 1 << 16;
 
@@ -18,13 +20,16 @@ pub fn lines(seed: u64) -> Vec<String> {
     let folder = Folder::new("record");
     let mut rng = Rng::new(seed);
     let mut lines = Vec::new();
-    for _ in 0..HISTORIES {
+    for history in 0..HISTORIES {
         let mut shape = shape(&mut rng);
         shape.k = shape.k.min(LARGEST_AREA / shape.c);
         lines.push(format!("L {:08x} {:08x} {:08x}", shape.k, shape.c, shape.m));
         let mut recorder = Recorder::new(&folder, shape);
         let calls = rng.range(6, 24);
         recorder.play(&mut rng, calls, &mut lines);
+        if history % TOO_LONG_EVERY == 0 {
+            lines.push(recorder.append_too_long());
+        }
         recorder.prune_over_altered_bytes(&mut rng, &mut lines);
     }
     lines
@@ -76,6 +81,13 @@ impl<'a> Recorder<'a> {
         let answer = self.original.append(&payload);
         let departure = self.follow(expected);
         format!("A {:02} {:08x} {:02x} {:02} {:016x}", departure, length, fill, answer.err().unwrap_or(0), answer.unwrap_or(0))
+    }
+
+    /// A payload of 2^30 + 1 zeros, which the original refuses unread.
+    fn append_too_long(&mut self) -> String {
+        let payload = vec![0; (1 << 30) + 1];
+        let answer = self.original.append(&payload);
+        format!("A 00 {:08x} 00 {:02} {:016x} {}", payload.len(), answer.err().unwrap_or(0), answer.unwrap_or(0), self.state())
     }
 
     fn prune_oldest(&mut self, new_start: u64) -> String {

@@ -4,6 +4,7 @@ use crate::fields;
 use image_rows::Rows;
 use seglog::Log;
 use seglog::Logged;
+use seglog_append::Appended;
 use segment::Segment;
 
 // Whether the answer was the recorded one, and the log after it.
@@ -83,12 +84,21 @@ fn fill(payload: &mut [u8], first: u32) {
     }
 }
 
+// The answer of an append of so many bytes. Where they are more than can be lent here, from their number alone, which gives the same
+// (`seglog_append:append-advances`); the bytes would have to be written only where it is accepted.
+fn append(log: Log, area: &mut [u8], payload: &[u8], length: usize) -> Appended {
+    if payload.len() < length {
+        return seglog_append::advance(log, area.len(), length);
+    }
+    seglog_append::append(log, area, slices::front(payload, length))
+}
+
 // A DD length fill NN id STATE
 pub(crate) fn appended(line: &[u8], log: Log, area: &mut [u8], payload: &mut [u8]) -> Turn {
     let length = fields::short_hex(fields::word(line, 2)) as usize;
     fill(&mut *payload, fields::short_hex(fields::word(line, 3)));
     let wanted = fields::wanted(line, 4);
-    let appended = seglog_append::append(log, &mut *area, slices::front(payload, length));
+    let appended = append(log, &mut *area, payload, length);
     let id = fields::hex(fields::word(line, 5));
     let answer = (appended.refusal == wanted) & ((wanted != 0) | (appended.id == id));
     let next = appended.log;
