@@ -1,11 +1,11 @@
 mod Bounds
 pub mod Copy
-pub mod Plain
-pub mod Placing
-pub mod Arranging
+pub mod TablePlain
+pub mod TablePlacing
+pub mod TableArranged
 pub mod Reading
-pub mod Groups
-pub mod Whole
+pub mod ReadingGroups
+pub mod ReadingWhole
 pub mod Unique
-pub mod Unwound
-pub mod Depends
+pub mod ReadingParts
+pub mod ReadingDepends

@@ -6,6 +6,7 @@ use mathlib.Core.Path.{_≡_, refl, sym, ap, _∙_}
 use lib.Dec.{eqb}
 use Rattle.lists.specs.Choice.{_⇒_, first}
 use Rattle.lists.specs.Outcome.{Outcome, refused, done}
+use Rattle.lists.proofs.Outcome.{determined}
 use Rattle.delta.specs.Reading.{decodingOutcome, DecodeOutcome, decodeOutcome, decodedOf}
 use Rattle.delta.specs.declared.Decoding.{Decoding}
 use Rattle.delta.specs.declared.Decoding.the-variants.{Consumed, EndsEarly, OverLimit, Duplicate}
@@ -31,7 +32,7 @@ decoded-by d = λ i. record { answer = decoding-by (d .answer) i; table = d .tab
 
 -- what `decode` answers is determined by its number and values
 pub decode-determined : (a b : Decoded) → decodeOutcome a ≡ decodeOutcome b → a ≡ b
-decode-determined a b e = sym (decoded-by a) ∙ ap decodedBy e ∙ decoded-by b
+decode-determined = determined decodeOutcome decodedBy decoded-by
 
 -- an answer that comes to what decoding comes to is that one
 pub decode-answer : (most : ℕ) (s : List ℕ) (d : Decoded) → decodeOutcome d ≡ decodedOf most s → d ≡ decodedBy (decodedOf most s)

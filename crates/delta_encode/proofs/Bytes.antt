@@ -5,6 +5,7 @@ use mathlib.Core.Path.{_≡_, refl, sym, ap, _∙_}
 use lib.Dec.{eqb}
 use Rattle.lists.specs.Choice.{_⇒_, first}
 use Rattle.lists.specs.Outcome.{Outcome, refused, done}
+use Rattle.lists.proofs.Outcome.{determined}
 use Rattle.delta.specs.declared.Table.{Table}
 use Rattle.delta_encode.specs.Bytes.{encodeOutcome, encodedOf}
 use Rattle.delta_encode.specs.declared.Encoded.{Encoded}
@@ -23,7 +24,7 @@ encoded-by Short = refl
 
 -- what `encode` answers is determined by its number or length
 pub encode-determined : (a b : Encoded) → encodeOutcome a ≡ encodeOutcome b → a ≡ b
-encode-determined a b e = sym (encoded-by a) ∙ ap encodedBy e ∙ encoded-by b
+encode-determined = determined encodeOutcome encodedBy encoded-by
 
 -- an answer that comes to what encoding comes to is that one
 pub encode-answer : (most : ℕ) (t : Table) (values out : List ℕ) (a : Encoded) → encodeOutcome a ≡ encodedOf most t values out

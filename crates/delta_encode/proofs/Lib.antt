@@ -1,9 +1,9 @@
 mod Bounds
 pub mod Bytes
-pub mod Any
-pub mod Writes
-pub mod Whole
-pub mod Parse
-pub mod RoundTrip
-pub mod Orders
+pub mod BytesOutside
+pub mod BytesWritten
+pub mod BytesWhole
+pub mod BytesRead
+pub mod BytesRoundTrip
+pub mod BytesOrder
 pub mod Unique

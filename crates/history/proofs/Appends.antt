@@ -5,7 +5,7 @@ use mathlib.Core.List.{List, _++_, _∷_, []}
 use mathlib.Core.Path.{ap, _≡_, sym, _∙_, refl, subst}
 use Prim.Native.Nat.{ℕ, _≤_, _+_, _-_, suc, _<_, _^_, _%_, _*_}
 use native.Mathlib.Omega.{arith}
-use lib.Dec.{eqb, leb, ltb}
+use lib.Dec.{eqb, ltb}
 use lib.ListN.{length}
 use borrow.Author.Tests.{ne-eqb, eqb-false, ltb-false}
 use Rattle.lists.proofs.Cases.{pick-either}
@@ -13,19 +13,25 @@ use Rattle.lists.proofs.Splice.{splice-length}
 use Rattle.lists.specs.Choice.{pick}
 use Rattle.record.proofs.Record.{record-length}
 use Rattle.record.specs.Record.{maxPayload, recordRoom, recordBytes}
-use Rattle.seglog.proofs.Slots.{snoc-apart, apart-snoc}
 use Rattle.seglog.proofs.View.{ends-with}
-use Rattle.seglog.specs.Log.{View, freshIn, apartOf, headOf, frontOf}
+use Rattle.seglog.specs.View.{View, headOf, frontOf}
+use Rattle.seglog.specs.Chain.{slotsApart}
 use Rattle.segment.specs.declared.Segment.{Segment}
-use Rattle.seglog_append.proofs.Free.{free-most, free-good}
+use Rattle.seglog_append.proofs.DecidingFree.{free-most, free-good}
 use Rattle.lists.specs.Outcome.{Outcome, refused, done, either}
+use Rattle.lists.specs.Distinct.{fresh}
+use Rattle.lists.proofs.Distinct.{distinct-more, snoc-distinct}
+use Rattle.lists.specs.Each.{all}
+use Rattle.segment.specs.Segment.{slotNumber}
+use Rattle.segment.specs.Chain.{Chain}
+use Rattle.segment.proofs.Chain.{chain-more, chain-keep}
+use Rattle.seglog.proofs.Chain.{chain-ends}
 use Rattle.seglog_append.specs.declared.Place.{Place}
 use Rattle.seglog_append.specs.Deciding.{nextId, opensOf, lowestFree, freshOf, beforeOf, targetOf, decideOf}
 use Rattle.seglog_append.specs.Appending.{Left, leftOf, startAfter, grownOf, withRecord, recordInto, appendOf}
 use Rattle.seglog_append.proofs.Deciding.{opens-no}
 use Rattle.history.specs.History.{noted}
 use Rattle.walk.specs.Records.{recordsFrom}
-use Rattle.history.proofs.Chain.{Chain, chain-ends, chain-join, chain-keep}
 use Rattle.history.proofs.Invariant.{Holds, Live}
 use Rattle.history.proofs.Slots.{Stored, Upto, keep-other, keep-grown}
 
@@ -39,8 +45,8 @@ pub record Spot (a : View) (area : List ℕ) (f : ℕ → List ℕ) (i b : ℕ) 
   pub chain : Chain (Stored area f (a .k) (a .c)) i b hs (g .id) (g .min)
   pub under : g .min ≤ a .end + 1
   pub upto : Upto area f (a .k) (a .c) (a .end + 1) g
-  pub fresh : freshIn (g .slot) hs ≡ true
-  pub apart : apartOf hs ≡ true
+  pub fresh : fresh slotNumber (g .slot) hs ≡ true
+  pub apart : slotsApart hs ≡ true
   pub live : (n : ℕ) → Live (startAfter a) (a .end + 1) (g .id + 1) (hs ++ (grownOf g n (a .end + 1) ∷ []))
 
 live-grown : (hs : List Segment) (g : Segment) (s e j s′ e′ j′ n x : ℕ) → s′ ≡ s → g .max ≤ x → Live s e j (hs ++ (g ∷ []))
@@ -78,7 +84,7 @@ module _ (a : View) (area : List ℕ) (f : ℕ → List ℕ) (h : Holds a area f
   to-head l =
       let t = chain-ends P (a .segs) (h .i) (h .b) (h .j) (a .end + 1) l (h .chain) in
       let split = ends-with (a .segs) l in
-      let slots = snoc-apart (frontOf (a .segs)) (headOf (a .segs)) (subst (λ (x : List Segment). apartOf x ≡ true) split (h .apart)) in
+      let slots = snoc-distinct slotNumber (frontOf (a .segs)) (headOf (a .segs)) (ap slotsApart (sym split) ∙ h .apart) in
       record {
         chain = t .left;
         under = omega (arith, t .order, t .max);
@@ -142,19 +148,12 @@ module _ (a : View) (area : List ℕ) (f : ℕ → List ℕ) (h : Holds a area f
           j = g .id + 1;
           first = h .first;
           low = h .low;
-          chain = chain-join Q (beforeOf a) (last ∷ []) (h .i) (h .b) (g .id) (g .min) (g .id + 1) (a .end + 1 + 1)
+          chain = chain-more Q (beforeOf a) last (h .i) (h .b)
               (chain-keep (g .slot) (beforeOf a) (h .i) (h .b) (g .id) (g .min)
               (λ x n m y. keep-other area f (a .k) (a .c) (h .all) (g .slot) (g .size) bytes (s .upto .slot) in-slot (a .end + 1) p x n
-              (omega (arith, s .under)) y) (s .fresh) (s .chain)) (
-                record {
-                  id = refl;
-                  min = refl;
-                  order = s .under;
-                  good = keep-grown area f (a .k) (a .c) (h .all) (a .end + 1) p g (s .under) (s .upto) fits little few;
-                },
-                (refl, refl),
-              );
-          apart = apart-snoc (beforeOf a) last (s .apart) (s .fresh);
+              (omega (arith, s .under)) y) (s .fresh) (s .chain))
+              (s .under) (keep-grown area f (a .k) (a .c) (h .all) (a .end + 1) p g (s .under) (s .upto) fits little few);
+          apart = distinct-more slotNumber (beforeOf a) last (s .apart) (s .fresh);
           live = s .live (recordRoom (length p));
         }
 

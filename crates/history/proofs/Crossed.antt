@@ -5,7 +5,7 @@ use mathlib.Core.List.{List}
 use mathlib.Core.Path.{_≡_, _∙_, refl, subst, sym, ap}
 use Prim.Native.Nat.{ℕ, _<_, _≤_}
 use native.Mathlib.Omega.{arith}
-use Rattle.seglog.specs.Log.{View}
+use Rattle.seglog.specs.View.{View}
 use Rattle.seglog.specs.declared.Log.{Log}
 use Rattle.lists.specs.Outcome.{Outcome, refused}
 use Rattle.seglog_prune.specs.Drop.{dropOld}
@@ -21,13 +21,13 @@ use Rattle.seglog_prune.specs.Prune.{
 }
 use Rattle.seglog_prune.proofs.Decide.{Inner, prune-passes, prune-refuses-9}
 use Rattle.history.specs.Corollaries.{EndsCrossed, SecondRefused}
-use Rattle.history.specs.Demand.{prunesTo}
 use Rattle.history.specs.History.{run, recent, oldest, step, refusalOf, afterPrune, Held, lastUnder, begun}
 use Rattle.history.proofs.Invariant.{Holds, some-live}
 use Rattle.history.proofs.Prunes.{oldest-holds}
 use Rattle.history.proofs.Runs.{Any, heldOf, recent-log, oldest-log, Came, runs-keep, on-view}
 
-module _ (a : View) (area : List ℕ) (f : ℕ → List ℕ) (h : Holds a area f) (s e : ℕ) (from : a .start ≤ e) (crossed : e < s) (to : s ≤ a .end)
+module _ (a : View) (area : List ℕ) (f : ℕ → List ℕ) (h : Holds a area f) (s e : ℕ) (from : a .start ≤ e) (crossed : e < s)
+    (to : s ≤ a .end)
     (above : 0 < e) where
   inner : Inner a true s
   inner =

@@ -15,16 +15,17 @@ use Rattle.lists.specs.Choice.{pick}
 use Rattle.lists.specs.Splice.{part}
 use Rattle.record.proofs.Record.{record-length, room-ge, record-payload}
 use Rattle.record.specs.Record.{recordBytes, recordRoom}
-use Rattle.seglog.specs.Log.{fittingOf}
+use Rattle.seglog.specs.Fit.{fittingOf}
 use Rattle.seglog.specs.declared.Log.{Log}
 use Rattle.segment.specs.declared.Segment.{Segment}
 use Rattle.segment.specs.Segment.{imageIn}
+use Rattle.segment.specs.Chain.{Chain}
+use Rattle.segment.proofs.Chain.{chain-le}
 use Rattle.recovery_walk.specs.Rows.{rowOf}
 use Rattle.walk.specs.Judging.{liveOf}
 use Rattle.payload.specs.Row.{rowQuestion, payloadOf, outsideOf}
 use Rattle.payload.proofs.Row.{payload-good}
 use Rattle.walk.specs.Records.{recordsFrom}
-use Rattle.history.proofs.Chain.{Chain, chain-le}
 use Rattle.history.proofs.Over.{rowsOver}
 use Rattle.history.proofs.Scans.{rowsChain}
 use Rattle.history.proofs.Slots.{Stored}

@@ -7,7 +7,7 @@ use mathlib.Core.Path.{_≡_, _∙_, refl, subst, sym, ap}
 use Prim.Native.Nat.{ℕ, _<_, _≤_, _*_}
 use native.Mathlib.Omega.{arith}
 use Rattle.lists.proofs.AnyOrder.{any-refl}
-use Rattle.seglog.specs.Log.{View}
+use Rattle.seglog.specs.View.{View}
 use Rattle.seglog.specs.declared.Log.{Log}
 use Rattle.segment.specs.declared.Segment.{Segment}
 use Rattle.seglog_prune.specs.Prune.{pruneRecentOf, pruned}

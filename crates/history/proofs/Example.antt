@@ -5,10 +5,14 @@ use mathlib.Core.Path.{_≡_, refl, _∙_}
 use Prim.Native.Nat.{ℕ}
 use native.Mathlib.Omega.{arith}
 use lib.ListN.{replicate, length}
+use Rattle.lists.specs.Each.{all, linked}
+use Rattle.lists.specs.Distinct.{distinct}
 use Rattle.page.proofs.Page.{whole}
 use Rattle.page.specs.Page.{paddedEnd, multipleFrom}
 use Rattle.record.specs.Record.{recordRoom}
-use Rattle.seglog.specs.Log.{logOf, plainOf, zerosOf, fittingOf, shapedOf, sizesOf, chainOf, apartOf, endsOf, freshIn}
+use Rattle.seglog.specs.View.{logOf, plainOf, zerosOf}
+use Rattle.seglog.specs.Chain.{chainOf, goesOn, endsOf}
+use Rattle.seglog.specs.Fit.{fittingOf, shapedOf, sizesOf}
 use Rattle.seglog.specs.New.{newOf, roomyOf}
 use Rattle.segment.specs.declared.Segment.{Segment}
 use Rattle.seglog_append.specs.Deciding.{decideLog, decideOf, opensOf, nextId, freeFrom}
@@ -37,13 +41,13 @@ abbrev segment : Segment
 segment = record { id = 1; slot = 0; size = 4096; min = 1; max = 1 }
 
 log-is : held .log ≡ logOf (record { k = 1; c = 4096; m = 4096; start = 1; end = 1; segs = segment ∷ [] })
-unfolding run appendLog decideLog decideOf fittingOf plainOf zerosOf shapedOf sizesOf chainOf apartOf endsOf opensOf nextId freeFrom freshIn recordRoom
-    paddedEnd multipleFrom newOf roomyOf
+unfolding run appendLog decideLog decideOf fittingOf plainOf zerosOf shapedOf sizesOf chainOf goesOn all linked distinct endsOf opensOf
+    nextId freeFrom recordRoom paddedEnd multipleFrom newOf roomyOf
 log-is = refl
 
 last-is : lastUnder (begun 1 4096 4096 area) (append bytes ∷ []) 1 ≡ bytes
-unfolding told run appendLog decideLog decideOf fittingOf plainOf zerosOf shapedOf sizesOf chainOf apartOf endsOf opensOf nextId freeFrom freshIn
-    recordRoom paddedEnd multipleFrom newOf roomyOf
+unfolding told run appendLog decideLog decideOf fittingOf plainOf zerosOf shapedOf sizesOf chainOf goesOn all linked distinct endsOf
+    opensOf nextId freeFrom recordRoom paddedEnd multipleFrom newOf roomyOf
 last-is = refl
 
 new-is : newOf 1 4096 4096 (length area) .refusal ≡ 0

@@ -6,10 +6,14 @@ use mathlib.Core.Path.{_≡_, refl}
 use Prim.Native.Nat.{ℕ, _≤_, _*_, _+_, _^_, _<_}
 use native.Mathlib.Omega.{arith}
 use lib.ListN.{length}
-use Rattle.seglog.specs.Log.{View, sizesOf, apartOf, emptyOf}
+use Rattle.seglog.specs.View.{View, emptyOf}
+use Rattle.seglog.specs.Chain.{slotsApart}
+use Rattle.seglog.specs.Fit.{sizesOf}
 use Rattle.segment.specs.declared.Segment.{Segment}
-use Rattle.history.proofs.Chain.{Chain}
+use Rattle.segment.specs.Chain.{Chain}
 use Rattle.history.proofs.Slots.{Stored}
+use Rattle.lists.specs.Distinct.{distinct}
+use Rattle.lists.specs.Each.{all}
 
 -- the range is (0, 0) and the next segment's id 1 where there is none; else it starts in the first one
 abbrev pub Live : ℕ → ℕ → ℕ → List Segment → Type 0
@@ -28,12 +32,12 @@ pub record Holds (a : View) (area : List ℕ) (f : ℕ → List ℕ) : Type 0 wh
   pub first : 1 ≤ i
   pub low : 1 ≤ b
   pub chain : Chain (Stored area f (a .k) (a .c)) i b (a .segs) j (a .end + 1)
-  pub apart : apartOf (a .segs) ≡ true
+  pub apart : slotsApart (a .segs) ≡ true
   pub live : Live (a .start) (a .end) j (a .segs)
 
 -- the empty log, whatever the area holds
 pub empty-holds : (k c m : ℕ) (area : List ℕ) (f : ℕ → List ℕ) → sizesOf k c m ≡ true → length area ≡ k * c → Holds (emptyOf k c m) area f
-unfolding apartOf
+unfolding distinct
 empty-holds k c m area f s l =
     record {
       sizes = s;

@@ -10,9 +10,9 @@ use lib.Dec.{leb, ltb}
 use borrow.Author.Tests.{lt-leb, le-leb, le-ltb, ltb-false, ltb-true}
 use Rattle.lists.specs.Choice.{pick}
 use Rattle.segment.specs.declared.Segment.{Segment}
+use Rattle.segment.specs.Chain.{Chain}
 use Rattle.seglog_prune.specs.Drop.{dropNew, keepAt, dropOld}
-use Rattle.recovery.specs.Recovery.{keptOf, holdsLive}
-use Rattle.history.proofs.Chain.{Chain}
+use Rattle.recovery.specs.Keeping.{keptOf, holdsLive}
 use Rattle.history.proofs.Later.{More, Grows}
 use Rattle.history.proofs.Prunes.{new-none, keep-cons}
 use Rattle.history.proofs.Scans.{Has}

@@ -10,14 +10,15 @@ use borrow.Author.Tests.{ne-eqb}
 use Rattle.lists.specs.Choice.{pick}
 use Rattle.record.specs.Record.{recordRoom}
 use Rattle.seglog.proofs.View.{ends-with}
-use Rattle.seglog.specs.Log.{View, frontOf, headOf}
+use Rattle.seglog.specs.View.{View, frontOf, headOf}
 use Rattle.segment.specs.declared.Segment.{Segment}
+use Rattle.segment.specs.Chain.{Chain}
+use Rattle.seglog.proofs.Chain.{chain-ends}
 use Rattle.seglog_append.specs.Deciding.{opensOf, freshOf}
 use Rattle.seglog_append.specs.Appending.{appendOf, grownOf}
 use Rattle.seglog_append.proofs.Deciding.{opens-no}
 use Rattle.seglog_append.proofs.Appending.{append-view-outcomes}
 use Rattle.history.specs.History.{append, appends, Held, run, told, step, heardCall}
-use Rattle.history.proofs.Chain.{chain-ends, Chain}
 use Rattle.history.proofs.Invariant.{Holds}
 use Rattle.history.proofs.Prunes.{closedBy}
 use Rattle.history.proofs.Runs.{AppendAlso, Came, on-view, came-append}

@@ -1,6 +1,5 @@
 pub mod Records
 pub mod Over
-pub mod Chain
 pub mod Slots
 pub mod Invariant
 pub mod Sorts

@@ -2,7 +2,7 @@
 -- Assumes nothing.
 use mathlib.Core.Bool.{true, false}
 use mathlib.Core.List.{List, _++_, append-assoc, append-nil, []}
-use mathlib.Core.Path.{_≡_, refl, ap, _∙_, sym}
+use mathlib.Core.Path.{_≡_, ap, _∙_, sym}
 use Prim.Native.Nat.{ℕ, zero, suc, _≤_, _+_, _%_}
 use native.Mathlib.Omega.{arith}
 use lib.ListN.{length, length-append}
@@ -36,7 +36,8 @@ module _ (f : ℕ → List ℕ) (s e : ℕ) where
       ap (λ (l : List ℕ). walkOf l s e w) (sym all)
       ∙ walk-records f s e n [] [] a w whole at plain g (omega arith)
       ∙ ap (λ (l : List ℕ). walkOf l s e (over f s e w a n)) all
-      ∙ walk-end (length img) (headerAt img) s e (over f s e w a n) (at-end img (over f s e w a n) (over-place f s e n w a whole ∙ omega arith))
+      ∙ walk-end (length img) (headerAt img) s e (over f s e w a n)
+      (at-end img (over f s e w a n) (over-place f s e n w a whole ∙ omega arith))
 
   abbrev on : Scan → ℕ → Scan
   on w a = advancedOf w s e (length (f a)) a
@@ -57,7 +58,8 @@ module _ (f : ℕ → List ℕ) (s e : ℕ) where
       ∙ ap (λ (l : List ℕ). penWith l w) (sym (append-nil ws))
   rows-over slot (suc n) pre a w ws whole at plain g room =
       rows-next img slot s e (penWith ws w) (on w a) (more-record pre a (f a) post w at)
-      (step-record pre a (f a) post w at s e (plain .small a (omega arith) (omega arith)) (omega (arith, plain .ids)) g (omega (arith, long)))
+      (step-record pre a (f a) post w at s e (plain .small a (omega arith) (omega arith)) (omega (arith, plain .ids)) g
+      (omega (arith, long)))
       ∙ ap (λ (v : Pen). rowsIn img slot s e v) moved
       ∙ ap (λ (l : List ℕ). rowsIn l slot s e (penWith (ws ++ row) (on w a))) (sym (append-assoc pre here post))
       ∙ rows-over slot n (pre ++ here) (suc a) (on w a) (ws ++ row)

@@ -1,22 +1,22 @@
 -- The image rows of a log of which the invariant holds, in order: they pass the tests of refusals 13 to 15.
 -- Assumes nothing.
-use mathlib.Core.Bool.{false, Bool, _&&_, true, not}
-use mathlib.Core.List.{List, [], _∷_}
+use mathlib.Core.Bool.{false, true}
+use mathlib.Core.List.{List, [], _∷_, map}
 use mathlib.Core.Logic.{⊎-elim}
 use mathlib.Core.Path.{_≡_, refl, ap, _∙_, subst, sym}
 use Prim.Native.Nat.{suc, ℕ, _+_, _≤_}
 use native.Mathlib.Omega.{arith}
-use lib.Dec.{eqb}
 use lib.ListN.{length}
 use borrow.Author.Tests.{lt-ltb, le-leb, ne-eqb, eq-eqb}
-use Rattle.lists.specs.Choice.{pick}
-use Rattle.seglog.specs.Log.{freshIn, apartOf}
+use Rattle.seglog.specs.Chain.{slotsApart}
 use Rattle.segment.specs.declared.Segment.{Segment}
 use Rattle.lists.specs.Each.{all, linked}
-use Rattle.lists.specs.Distinct.{fresh, distinct}
+use Rattle.lists.specs.Distinct.{distinct}
+use Rattle.lists.proofs.Distinct.{distinct-keys}
+use Rattle.segment.specs.Segment.{slotNumber}
+use Rattle.segment.specs.Chain.{Chain}
 use Rattle.image_rows.specs.ImageRows.{rowsApart, rowsInside, lowestZero, oneApart}
 use Rattle.history.specs.Demand.{rowsFor}
-use Rattle.history.proofs.Chain.{Chain}
 use Rattle.history.proofs.Scans.{Has}
 use Rattle.history.proofs.Slots.{Stored}
 use Rattle.history.proofs.Sorts.{Rising}
@@ -26,21 +26,13 @@ pub length-rows : (gs : List Segment) → length (rowsFor gs) ≡ length gs
 length-rows [] = refl
 length-rows (g ∷ gs) = ap suc (length-rows gs)
 
-fresh-rows : (s : ℕ) (gs : List Segment) → fresh (λ r. r .slot) s (rowsFor gs) ≡ freshIn s gs
-unfolding freshIn all
-fresh-rows s [] = refl
-fresh-rows s (g ∷ gs) = go (eqb s (g .slot)) (fresh-rows s gs)
-  where
-    go : (b : Bool) → fresh (λ r. r .slot) s (rowsFor gs) ≡ freshIn s gs → not b && fresh (λ r. r .slot) s (rowsFor gs) ≡ pick b false (freshIn s gs)
-    go true e = refl
-    go false e = e
-
 -- distinct slots
-pub apart-rows : (gs : List Segment) → rowsApart (rowsFor gs) ≡ apartOf gs
-unfolding apartOf distinct
-apart-rows [] = refl
-apart-rows (g ∷ gs) =
-    ap (λ (x : Bool). x && rowsApart (rowsFor gs)) (fresh-rows (g .slot) gs) ∙ ap (λ (x : Bool). freshIn (g .slot) gs && x) (apart-rows gs)
+pub apart-rows : (gs : List Segment) → rowsApart (rowsFor gs) ≡ slotsApart gs
+apart-rows gs = distinct-keys (λ r. r .slot) (rowsFor gs) ∙ ap (distinct (λ m. m)) (same gs) ∙ sym (distinct-keys slotNumber gs)
+  where
+    same : (gs : List Segment) → map (λ r. r .slot) (rowsFor gs) ≡ map slotNumber gs
+    same [] = refl
+    same (g ∷ gs) = ap (λ (l : List ℕ). g .slot ∷ l) (same gs)
 
 -- rising ids
 pub rising-rows : (P : Segment → Type 0) (gs : List Segment) (i b j c : ℕ) → Chain P i b gs j c → Rising i (rowsFor gs)

@@ -1,42 +1,36 @@
 -- The prunes keep the invariant, and prune recent always finds its cut; refused, they answer 8 or 9.
 -- Assumes nothing.
-use mathlib.Core.Bool.{not, false, true, Bool}
+use mathlib.Core.Bool.{false, true, Bool}
 use mathlib.Core.List.{List, [], _∷_, _++_, append-assoc}
 use mathlib.Core.Path.{sym, ap, _∙_, _≡_, refl, subst}
 use Prim.Native.Nat.{ℕ, _≤_, _<_, _-_, _+_, _*_}
 use native.Mathlib.Omega.{arith}
-use lib.Dec.{eqb, ltb}
-use lib.ListN.{length, drop, take}
-use lib.Seq.{take-take}
-use borrow.Author.Tests.{eqb-false, ltb-false, ne-eqb, le-ltb, ltb-true, lt-ltb}
-use Rattle.lists.proofs.Cases.{pick-either}
-use Rattle.lists.proofs.Bools.{clash, and-both, both-and}
-use Rattle.seglog.proofs.Slots.{fresh-cons, cons-fresh, snoc-apart, apart-snoc}
+use lib.Dec.{ltb}
+use lib.ListN.{length, getD, drop, take}
+use lib.Seq.{take-take, take-at}
+use borrow.Author.Tests.{ltb-false, le-ltb, ltb-true, lt-ltb}
+use Rattle.lists.proofs.Bools.{clash}
 use Rattle.seglog.proofs.View.{front-snoc, head-snoc}
 use Rattle.seglog.proofs.Fit.{sizes-are}
-use Rattle.seglog.specs.Log.{View, fitsOf, apartOf, freshIn, frontOf, headOf}
+use Rattle.seglog.specs.View.{View, frontOf, headOf}
+use Rattle.seglog.specs.Chain.{slotsApart}
 use Rattle.segment.specs.declared.Segment.{Segment}
-use Rattle.segment.specs.Segment.{imageIn, endedAt}
+use Rattle.segment.specs.Segment.{noSegment, imageIn, endedAt, slotNumber}
+use Rattle.segment.specs.Chain.{Chain}
+use Rattle.segment.proofs.Chain.{chain-more}
 use Rattle.lists.specs.Outcome.{Outcome, refused, done}
+use Rattle.lists.proofs.Distinct.{distinct-front, distinct-more, snoc-distinct}
+use Rattle.lists.specs.Each.{all}
 use Rattle.seglog_prune.specs.Drop.{dropOld, dropNew, keepAt}
 use Rattle.seglog_prune.specs.Cut.{findCut}
-use Rattle.seglog_prune.specs.Prune.{
-  Pruned,
-  pruned,
-  pruneOf,
-  startedAt,
-  pruneOldestOf,
-  cutOff,
-  pruneRecentOf,
-}
+use Rattle.seglog_prune.specs.Prune.{Pruned, pruned, pruneOf, startedAt, pruneOldestOf, cutOff, pruneRecentOf}
 use Rattle.seglog_prune.specs.Prune as Prune
-use Rattle.seglog_prune.proofs.Decide.{Inner, prune-ways, prune-passes}
+use Rattle.seglog_prune.proofs.DropKept.{old-chain}
+use Rattle.seglog_prune.proofs.Decide.{Inner, prune-ways}
 use Rattle.walk.specs.Records.{recordsFrom}
-use Rattle.history.proofs.Chain.{Chain, chain-join}
 use Rattle.history.proofs.Cuts.{cut-records}
 use Rattle.history.proofs.Invariant.{Holds, empty-holds, Live}
 use Rattle.history.proofs.Records.{from-front, splice-whole}
-use Rattle.history.proofs.Shape.{holds-fits}
 use Rattle.history.proofs.Slots.{Stored}
 
 -- what a prune's outcome keeps: a refusal is 8 or 9
@@ -53,39 +47,10 @@ prune-keeps a area f n rest h k =
 
 -- ---- oldest
 
--- what is left of a chain without its oldest segments
-pub record Old (P : Segment → Type 0) (i b n j c : ℕ) (gs : List Segment) : Type 0 where
-  pub i′ : ℕ
-  pub b′ : ℕ
-  pub first : i ≤ i′
-  pub low : b ≤ b′
-  pub chain : Chain P i′ b′ gs j c
-  pub apart : apartOf gs ≡ true
-  pub live : (e : ℕ) → Live n e j gs
-
--- prune oldest leaves a chain whose first segment holds n
-pub old : (P : Segment → Type 0) (gs : List Segment) (i b n j c : ℕ) → 0 < length gs → b ≤ n → n < c → Chain P i b gs j c
-    → apartOf gs ≡ true → Old P i b n j c (dropOld n gs)
-unfolding dropOld apartOf
-old P [] i b n j c s l u h p = absurd (omega arith)
-old P (g ∷ []) i b n j c s l u h p =
-    let inside : (e : ℕ) → Live n e j (g ∷ []) = λ e. (omega (arith, h .0 .min), omega (arith, h .1 .1)) in
-    record { i′ = i; b′ = b; first = omega arith; low = omega arith; chain = h; apart = p; live = inside }
-old P (g ∷ x ∷ gs) i b n j c s l u h p =
-    pick-either (Old P i b n j c) (ltb (g .max) n) (dropOld n (x ∷ gs)) (g ∷ x ∷ gs)
-    (λ q. let t = old P (x ∷ gs) (i + 1) (g .max + 1) n j c (omega arith) (omega (arith, ltb-true (g .max) n q)) u (h .1)
-    (and-both (freshIn (g .slot) (x ∷ gs)) (apartOf (x ∷ gs)) p .1) in
-    record {
-      i′ = t .i′;
-      b′ = t .b′;
-      first = omega (arith, t .first);
-      low = omega (arith, t .low, h .0 .order);
-      chain = t .chain;
-      apart = t .apart;
-      live = t .live;
-    })
-    (λ q. let inside : (e : ℕ) → Live n e j (g ∷ x ∷ gs) = λ e. (omega (arith, h .0 .min), ltb-false (g .max) n q) in
-    record { i′ = i; b′ = b; first = omega arith; low = omega arith; chain = h; apart = p; live = inside })
+-- the live start lies in the first segment
+live-from : (gs : List Segment) (s e j : ℕ) → 0 < length gs → getD gs 0 noSegment .min ≤ s → s ≤ getD gs 0 noSegment .max → Live s e j gs
+live-from [] s e j some from to = absurd (omega arith)
+live-from (g ∷ gs) s e j some from to = (from, to)
 
 -- the live start is not below the first record
 pub live-low : (P : Segment → Type 0) (gs : List Segment) (i b s e j c : ℕ) → 0 < length gs → Chain P i b gs j c → Live s e j gs → b ≤ s
@@ -98,8 +63,8 @@ pub oldest-holds : (a : View) (area : List ℕ) (f : ℕ → List ℕ) (n : ℕ)
 oldest-holds a area f n h w =
     let P : Segment → Type 0 = Stored area f (a .k) (a .c) in
     let l = live-low P (a .segs) (h .i) (h .b) (a .start) (a .end) (h .j) (a .end + 1) (w .some) (h .chain) (h .live) in
-    let o = old P (a .segs) (h .i) (h .b) n (h .j) (a .end + 1) (w .some) (omega (arith, l, w .lower)) (omega (arith, w .upper)) (h .chain)
-    (h .apart) in
+    let o = old-chain P (a .segs) (h .i) (h .b) n (h .j) (a .end + 1) (w .some) (omega (arith, l, w .lower)) (omega (arith, w .upper))
+    (h .chain) (h .apart) in
     record {
       sizes = h .sizes;
       all = h .all;
@@ -111,7 +76,7 @@ oldest-holds a area f n h w =
       low = omega (arith, h .low, o .low);
       chain = o .chain;
       apart = o .apart;
-      live = o .live (a .end);
+      live = live-from (dropOld n (a .segs)) n (a .end) (h .j) (o .some) (o .from) (o .to);
     }
 
 -- prune oldest keeps the invariant
@@ -182,19 +147,6 @@ new P (g ∷ gs) i b n j c l u h = go (ltb (g .max) n) refl (λ q. new P gs (i +
           high = ltb-false (g .max) n q;
         }
 
-fresh-front : (s : ℕ) (hs gs : List Segment) → freshIn s (hs ++ gs) ≡ true → freshIn s hs ≡ true
-unfolding freshIn
-fresh-front s [] gs h = refl
-fresh-front s (g ∷ hs) gs h =
-    let t = fresh-cons s g (hs ++ gs) h in cons-fresh s g hs (record { here = t .here; rest = fresh-front s hs gs (t .rest) })
-
-apart-front : (hs gs : List Segment) → apartOf (hs ++ gs) ≡ true → apartOf hs ≡ true
-unfolding apartOf
-apart-front [] gs h = refl
-apart-front (g ∷ hs) gs h =
-    let t = and-both (freshIn (g .slot) (hs ++ gs)) (apartOf (hs ++ gs)) h in both-and (freshIn (g .slot) hs) (apartOf hs)
-    (fresh-front (g .slot) hs gs (t .0)) (apart-front hs gs (t .1))
-
 -- g ends with the record n, whose payloads f has
 abbrev pub closedBy : (ℕ → List ℕ) → Segment → ℕ → Segment
 closedBy f g n = endedAt g n (length (recordsFrom f (g .min) (n + 1 - g .min)))
@@ -255,8 +207,9 @@ module _ (a : View) (area : List ℕ) (f : ℕ → List ℕ) (n : ℕ) (h : Hold
   ended-holds =
       let t = at-new in
       let split : a .segs ≡ (t .hs ++ (t .g ∷ [])) ++ t .rest = t .is ∙ sym (append-assoc (t .hs) (t .g ∷ []) (t .rest)) in
-      let slots = snoc-apart (t .hs) (t .g) (apart-front (t .hs ++ (t .g ∷ [])) (t .rest)
-      (subst (λ (l : List Segment). apartOf l ≡ true) split (h .apart))) in
+      let front : List Segment = t .hs ++ (t .g ∷ []) in
+      let slots = snoc-distinct slotNumber (t .hs) (t .g) (ap slotsApart (sym (take-at front (t .rest) (length front) refl))
+      ∙ distinct-front slotNumber (length front) (front ++ t .rest) (ap slotsApart (sym split) ∙ h .apart)) in
       record {
         sizes = h .sizes;
         all = h .all;
@@ -266,9 +219,9 @@ module _ (a : View) (area : List ℕ) (f : ℕ → List ℕ) (n : ℕ) (h : Hold
         j = t .g .id + 1;
         first = h .first;
         low = h .low;
-        chain = chain-join P (t .hs) (closedBy f (t .g) n ∷ []) (h .i) (h .b) (t .g .id) (t .g .min) (t .g .id + 1) (n + 1) (t .left)
-            (record { id = refl; min = refl; order = t .low; good = ended-good (t .g) (t .good) (t .low) (t .high) }, (refl, refl));
-        apart = apart-snoc (t .hs) (closedBy f (t .g) n) (slots .0) (slots .1);
+        chain = chain-more P (t .hs) (closedBy f (t .g) n) (h .i) (h .b) (t .left) (t .low)
+            (ended-good (t .g) (t .good) (t .low) (t .high));
+        apart = distinct-more slotNumber (t .hs) (closedBy f (t .g) n) (slots .0) (slots .1);
         live =
             live-ended (t .hs) (t .rest) (t .g) (closedBy f (t .g) n) (a .start) (a .end) (h .j) n (t .g .id + 1)
             (subst (λ (l : List Segment). Live (a .start) (a .end) (h .j) l) (t .is) (h .live)) refl (w .lower);

@@ -6,10 +6,11 @@ use mathlib.Core.Path.{_≡_, subst, sym, refl}
 use Prim.Native.Nat.{_-_, ℕ, _<_, zero, suc, _+_}
 use native.Mathlib.Omega.{arith}
 use lib.ListN.{length, getD, replicate}
-use Rattle.seglog.specs.Log.{View, logOf}
+use Rattle.seglog.specs.View.{View, logOf}
 use Rattle.segment.specs.Segment.{noSegment, imageIn}
 use Rattle.seglog.specs.declared.Log.{Log}
 use Rattle.segment.specs.declared.Segment.{Segment}
+use Rattle.segment.specs.Chain.{Chain}
 use Rattle.seglog_append.specs.Appending.{Left, appendAnswer, appendOf}
 use Rattle.lists.specs.Outcome.{Outcome, refused, done}
 use Rattle.seglog_prune.specs.Prune.{Pruned, pruneAnswer, pruneOldestOf, pruneRecentOf}
@@ -17,7 +18,6 @@ use Rattle.history.specs.History.{run, Held, begun, lastUnder, append, C
 use Rattle.walk.specs.Records.{recordsFrom}
 use Rattle.history.specs.Recorded.{Recorded, RunsAreRecorded, RunsNeverMeet2Or10}
 use Rattle.history.proofs.Appends.{AppendKeeps, append-keeps}
-use Rattle.history.proofs.Chain.{Chain}
 use Rattle.history.proofs.Invariant.{Holds}
 use Rattle.history.proofs.Prunes.{PruneKeeps, oldest-keeps, recent-keeps}
 use Rattle.history.proofs.Runs.{heldOf, log-fitting, runs-keep, on-view, append-log, oldest-log, recent-log}

@@ -1,45 +1,39 @@
 -- Recovery depends on the images and not on where they lie: the proof of specs/Relocation.antt's first statement.
 -- Assumes nothing.
 use mathlib.Core.Bool.{Bool, true, false, _&&_}
-use mathlib.Core.List.{List, [], _∷_, _++_, map, map-append}
+use mathlib.Core.List.{List, _∷_, _++_, map, map-append}
 use mathlib.Core.Path.{_≡_, refl, ap, sym, subst, _∙_}
 use Prim.Native.Nat.{ℕ, zero, suc, _+_, _-_, _*_, _/_, _≤_, _<_}
 use native.Mathlib.Omega.{arith}
 use lib.Dec.{eqb, ltb, leb}
 use lib.ListN.{length, drop, replicate, length-map, length-replicate}
-use borrow.Author.Tests.{lt-leb, le-ltb, ltb-true, ltb-false, leb-true, eqb-true, eqb-false}
+use borrow.Author.Tests.{lt-leb, le-ltb, ltb-true, ltb-false, eqb-true, eqb-false}
 use Rattle.lists.specs.Splice.{part}
 use Rattle.lists.proofs.Bools.{and-both}
 use Rattle.lists.proofs.Cases.{by-test}
 use Rattle.lists.proofs.Distinct.{distinct-at}
 use Rattle.lists.proofs.Splice.{part-part, splice-before, splice-slot}
+use Rattle.lists.specs.Each.{all}
 use Rattle.segment.specs.declared.Segment.{Segment}
 use Rattle.segment.specs.declared.ImageRow.{ImageRow}
-use Rattle.segment.specs.Segment.{noSegment, noRow, imageOf, endedAt}
-use Rattle.seglog.specs.declared.Log.{Log}
-use Rattle.seglog.specs.Log.{View, logOf, headOf, fittingOf, fitsOf, shapedOf, sizesOf, chainOf, apartOf, endsOf}
+use Rattle.segment.specs.Segment.{noSegment, noRow, imageOf}
+use Rattle.seglog.specs.View.{View, logOf, headOf}
+use Rattle.seglog.specs.Chain.{chainOf, endsOf, slotsApart}
+use Rattle.seglog.specs.Fit.{fitsOf, shapedOf, sizesOf}
 use Rattle.seglog.proofs.Fit.{SegmentGood}
 use Rattle.seglog.proofs.Chain.{chain-at}
-use Rattle.image_rows.specs.ImageRows.{sortRows, rowsFit, rowsInside, rowsApart}
+use Rattle.image_rows.specs.ImageRows.{sortRows, rowsFit, rowsApart}
 use Rattle.image_rows.proofs.ImageRows.{fit-is, sort-inside, sort-apart, inside-at}
 use Rattle.recovery_walk.specs.Images.{rowAt}
 use Rattle.recovery.specs.Recovery.{Recovery, recovered, recoveryOf}
-use Rattle.recovery.proofs.Laws.{recovered-fits, recovered-log-fits}
+use Rattle.recovery.proofs.Recovery.{recovered-fits, recovered-log-fits}
 use Rattle.payload.specs.Row.{rowQuestion, payloadOf, outsideOf}
 use Rattle.payload.proofs.Row.{payload-good}
 use Rattle.history.specs.Demand.{rowWord, questionAt, payloadAt}
 use Rattle.history.specs.Relocation.{placeless, placelessLog, SameImages, SameRow, SameElsewhere, Relocation}
 use Rattle.history.proofs.IndexRows.{shift}
 use Rattle.history.proofs.RelocationWalk.{Moved, no-row, one-row, rows-many, row-bytes}
-use Rattle.history.proofs.RelocationOutcome.{
-  Closing,
-  FromRows,
-  Alike,
-  both-refuse,
-  both-empty,
-  both-close,
-  recovery-alike,
-}
+use Rattle.history.proofs.RelocationOutcome.{Closing, FromRows, Alike, both-refuse, both-empty, both-close, recovery-alike}
 
 -- ---- rows in slots of their own
 
@@ -71,7 +65,7 @@ module _ (k c m : ℕ) (area : List ℕ) (rows : List ImageRow) (s e room : ℕ)
         let some = end .some in
         let shaped = and-both (shapedOf a) (eqb (length after) (a .k * a .c)) (recovered-fits k c m area rows s e room a after ws is) .0 in
         let t = and-both _ (endsOf (a .start) (a .end) (a .segs)) shaped in
-        let u = and-both _ (apartOf (a .segs)) (t .0) in
+        let u = and-both _ (slotsApart (a .segs)) (t .0) in
         let v = and-both (sizesOf (a .k) (a .c) (a .m) && leb (length (a .segs)) (a .k)) (chainOf (a .k) (a .c) (a .segs)) (u .0) in
         chain-at (a .k) (a .c) (a .segs) (length (a .segs) - 1) (v .1) (omega arith)
 

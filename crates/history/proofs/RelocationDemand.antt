@@ -4,7 +4,7 @@ use mathlib.Core.Bool.{Bool, true, false, not}
 use mathlib.Core.List.{List, [], _∷_, _++_}
 use mathlib.Core.Logic.{⊎-elim}
 use mathlib.Core.Path.{_≡_, refl, ap, sym, subst, _∙_}
-use Prim.Native.Nat.{ℕ, zero, suc, _+_, _-_, _*_, _≤_, _<_}
+use Prim.Native.Nat.{ℕ, suc, _+_, _-_, _*_, _≤_, _<_}
 use native.Mathlib.Omega.{arith}
 use lib.Dec.{ltb}
 use lib.ListN.{length, drop, length-append, length-drop}
@@ -14,7 +14,7 @@ use Rattle.lists.proofs.Bools.{zero-is-not-one}
 use Rattle.segment.specs.declared.Segment.{Segment}
 use Rattle.segment.specs.declared.ImageRow.{ImageRow}
 use Rattle.seglog.specs.declared.Log.{Log}
-use Rattle.seglog.specs.Log.{View, emptyOf, headOf}
+use Rattle.seglog.specs.View.{View, emptyOf, headOf}
 use Rattle.seglog.specs.New.{roomyOf}
 use Rattle.seglog_prune.proofs.PruneFrame.{padded-none}
 use Rattle.image_rows.specs.ImageRows.{sortRows, rowsFit}
@@ -53,7 +53,8 @@ accepted-passes k c m area rows s e room h =
     go (roomyOf k c m (length area)) (oneZero s e) (ltb e s) (rowsFit k c rows) refl refl _ h
   where
     go : (x o t f : Bool) → roomyOf k c m (length area) ≡ x → rowsFit k c rows ≡ f → (rest : Recovery)
-        → recoveryAnswer (pick (not x) (refused 1) (pick o (refused 11) (pick t (refused 12) (pick (not f) (refused 13) rest)))) .refusal ≡ 0
+        → recoveryAnswer (pick (not x) (refused 1) (pick o (refused 11) (pick t (refused 12) (pick (not f) (refused 13) rest)))) .refusal
+        ≡ 0
         → (roomyOf k c m (length area) ≡ true) × (rowsFit k c rows ≡ true)
     go false o t f p q rest h = absurd (omega arith)
     go true true t f p q rest h = absurd (omega arith)
@@ -166,7 +167,8 @@ module _ (t : Held) (f : ℕ → List ℕ) (came : Came Any t f) (further : List
             let r = subst (RowOf (d .cut-from)) (sym (own-sorted ∙ own-is)) (row-of (d .cut-from) (z .segs) (d .cut-listed)) in
             let slot : left .g .slot ≡ d .cut-from .slot = sym (ap (λ (h : Segment). h .slot) head) ∙ d .cut-slot in
             let one : g .i ≡ r .i =
-            one-slot (sortRows own) (g .i) (r .i) (sort-apart own (fit-is (u .log .k) (u .log .c) own (passes .1) .apart)) (g .below) (r .below)
+            one-slot (sortRows own) (g .i) (r .i) (sort-apart own (fit-is (u .log .k) (u .log .c) own (passes .1) .apart)) (g .below)
+            (r .below)
             (sym (g .slot) ∙ slot ∙ sym (ap (λ (y : ImageRow). y .slot) (r .is))) in
             let size : left .g .size ≡ d .cut-from .size =
             g .size ∙ ap (λ (i : ℕ). rowAt (sortRows own) i .size) one ∙ ap (λ (y : ImageRow). y .size) (r .is) in
@@ -177,7 +179,8 @@ module _ (t : Held) (f : ℕ → List ℕ) (came : Came Any t f) (further : List
     delivers-elsewhere =
         let r = relocation (u .log .k) (u .log .c) (u .log .m) (u .area) own k c m area rows same s e index index refl in
         let y = rest _ _ refl (recovery-alike (u .log .k) (u .log .c) (u .log .m) (u .area) own k c m area rows s e same (length index)) in
-        let row : (i : ℕ) → i < idsIn s e → i < recoveryAnswer (recovering u own s e index) .rows = λ i l. omega (arith, gives .row-count) in
+        let row : (i : ℕ) → i < idsIn s e → i < recoveryAnswer (recovering u own s e index) .rows = λ i l. omega
+        (arith, gives .row-count) in
         record {
           accepts = sym (r .refusal-same) ∙ gives .accepts;
           log-same = sym (r .log-same) ∙ ap (λ (l : Log). placelessLog l) (gives .log-same);

@@ -12,18 +12,19 @@ use Rattle.lists.specs.Outcome.{Outcome, refused, done}
 use Rattle.lists.proofs.Bools.{zero-is-not-one}
 use Rattle.segment.specs.declared.Segment.{Segment}
 use Rattle.segment.specs.declared.ImageRow.{ImageRow}
-use Rattle.segment.specs.Segment.{noSegment, noRow, imageOf, endedAt, paddedTo}
-use Rattle.seglog.specs.Log.{View, emptyOf, headOf, frontOf}
+use Rattle.segment.specs.Segment.{noSegment, endedAt, paddedTo}
+use Rattle.seglog.specs.View.{View, emptyOf, headOf, frontOf}
 use Rattle.seglog.specs.New.{roomyOf}
 use Rattle.seglog.proofs.View.{head-snoc}
 use Rattle.image_rows.specs.ImageRows.{sortRows, rowsFit, lowestZero, oneApart}
 use Rattle.walk.specs.declared.Scan.{Scan}
 use Rattle.walk.specs.Judging.{startOf}
-use Rattle.recovery_walk.specs.Images.{Found, walked, images, rowAt, filledOf}
+use Rattle.recovery_walk.specs.Images.{Found, walked, images, rowAt}
 use Rattle.recovery_walk.specs.Rows.{rowsAll, penOf}
 use Rattle.recovery_walk.specs.Scan.{scanOf, judged, liveCount}
 use Rattle.recovery_walk.proofs.Images.{first-walked, walked-same}
-use Rattle.recovery.specs.Recovery.{Recovery, recovered, recoveryOf, oneZero, scanned, outcomeOf, keptOf, holdsLive}
+use Rattle.recovery.specs.Recovery.{Recovery, recovered, recoveryOf, oneZero, scanned, outcomeOf}
+use Rattle.recovery.specs.Keeping.{keptOf, holdsLive}
 use Rattle.history.specs.Demand.{rowFor, rowsFor}
 use Rattle.history.specs.Relocation.{imagesOf, placeless, SameImages}
 use Rattle.history.proofs.RelocationWalk.{Moved, no-row, walk-same, placelessWalk, rows-moved, lowest-same, apart-same}
@@ -216,7 +217,8 @@ module _ (k c m : ℕ) (area : List ℕ) (rows : List ImageRow) (k′ c′ m′ 
 
         closed-same : map placeless (closed e (d .«end_of_e») (keptOf s e gs)) ≡ map placeless (closed e (d .«end_of_e») (keptOf s e gs′))
         closed-same =
-            closed-placeless e (d .«end_of_e») (keptOf s e gs) ∙ ap (closed e (d .«end_of_e»)) kept-same ∙ sym (closed-placeless e (d .«end_of_e») (keptOf s e gs′))
+            closed-placeless e (d .«end_of_e») (keptOf s e gs) ∙ ap (closed e (d .«end_of_e»)) kept-same ∙ sym
+            (closed-placeless e (d .«end_of_e») (keptOf s e gs′))
 
         go : (x y z : Bool)
             → Alike (outcomeOf k c m area s e rs
@@ -246,7 +248,8 @@ module _ (k c m : ℕ) (area : List ℕ) (rows : List ImageRow) (k′ c′ m′ 
         go (done (d, gs)) (done (d′, gs′)) p p′ q =
             let both = walked-same q in
             subst (λ (x : Scan). images area′ c′ s e rs′ startOf ≡ walked x gs′
-            → Alike (outcomeOf k c m area s e rs (judged s e room (walked d gs))) (outcomeOf k′ c′ m′ area′ s e rs′ (judged s e room (walked x gs′))))
+            → Alike (outcomeOf k c m area s e rs (judged s e room (walked d gs)))
+            (outcomeOf k′ c′ m′ area′ s e rs′ (judged s e room (walked x gs′))))
             (both .0) (λ r. walked-alike room d gs gs′ p r (both .1)) p′
 
   -- two runs over the same images
@@ -254,7 +257,8 @@ module _ (k c m : ℕ) (area : List ℕ) (rows : List ImageRow) (k′ c′ m′ 
       → Alike (recoveryOf k c m area rows s e room) (recoveryOf k′ c′ m′ area′ rows′ s e room)
   unfolding recoveryOf
   recovery-alike h room =
-      alike-pick (not (roomyOf k c m (length area))) (not (roomyOf k′ c′ m′ (length area′))) _ _ _ _ (ap not (h .roomy ∙ sym (h .roomy′))) both-refuse
+      alike-pick (not (roomyOf k c m (length area))) (not (roomyOf k′ c′ m′ (length area′))) _ _ _ _
+      (ap not (h .roomy ∙ sym (h .roomy′))) both-refuse
       (alike-pick (oneZero s e) (oneZero s e) _ _ _ _ refl both-refuse
       (alike-pick (ltb e s) (ltb e s) _ _ _ _ refl both-refuse
       (alike-pick (not (rowsFit k c rows)) (not (rowsFit k′ c′ rows′)) _ _ _ _ (ap not (h .fit ∙ sym (h .fit′))) both-refuse

@@ -5,16 +5,15 @@ use mathlib.Core.List.{List, [], _∷_, _++_, map}
 use mathlib.Core.Path.{_≡_, refl, ap, sym, _∙_}
 use Prim.Native.Nat.{ℕ, zero, suc, _+_, _-_, _≤_, _<_}
 use native.Mathlib.Omega.{arith}
-use lib.Dec.{eqb, ltb}
-use lib.ListN.{length, getD, length-take}
+use lib.Dec.{eqb}
+use lib.ListN.{length}
 use borrow.Author.Tests.{ltb-false}
-use Rattle.lists.specs.Choice.{pick}
 use Rattle.lists.specs.Each.{linked}
 use Rattle.lists.specs.Outcome.{Outcome, refused, done, either}
 use Rattle.lists.proofs.Bools.{zero-is-not-one}
 use Rattle.segment.specs.declared.Segment.{Segment}
 use Rattle.segment.specs.declared.ImageRow.{ImageRow}
-use Rattle.segment.specs.Segment.{noRow, imageOf}
+use Rattle.segment.specs.Segment.{imageOf}
 use Rattle.image_rows.specs.ImageRows.{lowestZero, oneApart}
 use Rattle.record.specs.Record.{headerAt}
 use Rattle.walk.specs.declared.Scan.{Scan}
@@ -118,7 +117,8 @@ module _ (area : List ℕ) (c : ℕ) (area′ : List ℕ) (c′ s e : ℕ) where
       let f = same-first area c area′ c′ r r′ rs rs′ q in
       go (imageWalk area c s e r w) (f .id) (f .size) (walk-same rs rs′ (f .rest))
       ∙ (λ j. placelessWalk
-      (after (entered w (nextImage w (f .size j)) (walkOf (f .bytes j) s e)) (λ d. behind (filledOf r′ d ∷ []) (images area′ c′ s e rs′ d))))
+      (after (entered w (nextImage w (f .size j)) (walkOf (f .bytes j) s e))
+      (λ d. behind (filledOf r′ d ∷ []) (images area′ c′ s e rs′ d))))
     where
       go : (o : Walked) → r .id ≡ r′ .id → r .size ≡ r′ .size
           → ((d : Scan) → placelessWalk (images area c s e rs d) ≡ placelessWalk (images area′ c′ s e rs′ d))
@@ -188,7 +188,8 @@ module _ (img : List ℕ) (slot slot′ s e : ℕ) (Q : (slot slot′ off len : 
 
       fault : (w : Scan) (n : ℕ) → moreOf w (length img) ≡ true → recordStep img s e w ≡ Fault n → Both w (Faulted n w)
       fault w n h m ws ws′ q =
-          rw (rows-fault img slot s e (penWith ws w) n h m, rows-fault img slot′ s e (penWith ws′ w) n h m) (record { state = refl; words = q })
+          rw (rows-fault img slot s e (penWith ws w) n h m, rows-fault img slot′ s e (penWith ws′ w) n h m)
+          (record { state = refl; words = q })
 
       end : (w : Scan) → moreOf w (length img) ≡ false → Both w (Ended w)
       end w h ws ws′ q =

@@ -12,14 +12,15 @@ use borrow.Author.Tests.{eq-eqb, ne-eqb, eqb-true}
 use Rattle.lists.specs.Choice.{pick}
 use Rattle.lists.proofs.Bools.{and-both, both-and}
 use Rattle.seglog.proofs.View.{plain-log, view-log}
-use Rattle.seglog.specs.Log.{View, logOf, plainOf, fittingOf, shapedOf, viewOf, sizesOf, emptyOf, zeroLog}
+use Rattle.seglog.specs.View.{View, logOf, plainOf, viewOf, emptyOf, zeroLog}
+use Rattle.seglog.specs.Fit.{fittingOf, shapedOf, sizesOf}
 use Rattle.segment.specs.Segment.{noSegment}
 use Rattle.seglog.specs.New.{newOf, accepted, roomyOf, refusedLog}
 use Rattle.seglog.specs.declared.Log.{Log}
 use Rattle.seglog_append.specs.Appending.{Left, appendLog, appendOf, appendAnswer}
 use Rattle.seglog_append.proofs.Appending.{append-fits}
 use Rattle.lists.specs.Outcome.{Outcome, refused, done}
-use Rattle.seglog_prune.specs.Prune.{Pruned, pruned, oldestLog, pruneOldestOf, recentLog, pruneRecentOf}
+use Rattle.seglog_prune.specs.Prune.{Pruned, oldestLog, pruneOldestOf, recentLog, pruneRecentOf}
 use Rattle.history.specs.History.{
   Held,
   append,

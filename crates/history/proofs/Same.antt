@@ -11,11 +11,12 @@ use borrow.Author.Tests.{ltb-true}
 use Rattle.lists.specs.Choice.{pick}
 use Rattle.record.specs.Record.{recordRoom}
 use Rattle.segment.specs.declared.Segment.{Segment}
+use Rattle.segment.specs.Chain.{Chain}
+use Rattle.segment.proofs.Chain.{chain-le}
 use Rattle.seglog_prune.specs.Drop.{dropOld}
 use Rattle.recovery_walk.proofs.Rows.{row-dead}
 use Rattle.recovery_walk.specs.Rows.{rowOf}
 use Rattle.walk.specs.Judging.{liveOf}
-use Rattle.history.proofs.Chain.{Chain, chain-le}
 use Rattle.history.proofs.Deliver.{live-over, live-under}
 use Rattle.history.proofs.Later.{Grows}
 use Rattle.history.proofs.Over.{rowsOver}

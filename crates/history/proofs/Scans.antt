@@ -7,9 +7,9 @@ use mathlib.Core.Path.{_≡_, refl, sym, ap, _∙_, subst}
 use Prim.Native.Nat.{ℕ, min, _+_, _-_, suc, _≤_, zero, _<_, _%_}
 use native.Mathlib.Nat.{add-zero}
 use native.Mathlib.Omega.{arith}
-use lib.Dec.{ltb, eqb, leb, lit<}
+use lib.Dec.{ltb, eqb, lit<}
 use lib.ListN.{length, length-append}
-use borrow.Author.Tests.{lt-ltb, ltb-true, eqb-true, le-ltb, ltb-false, eqb-false, leb-true, leb-false, ne-eqb, eq-eqb}
+use borrow.Author.Tests.{lt-ltb, ltb-true, eqb-true, le-ltb, ltb-false, eqb-false, ne-eqb, eq-eqb}
 use Rattle.lists.specs.Choice.{pick}
 use Rattle.page.proofs.Page.{pad-multiple}
 use Rattle.page.specs.Page.{paddedEnd}
@@ -17,6 +17,7 @@ use Rattle.record.proofs.Record.{record-length}
 use Rattle.record.specs.Record.{recordRoom, recordBytes}
 use Rattle.segment.specs.declared.Segment.{Segment}
 use Rattle.segment.specs.Segment.{imageOf}
+use Rattle.segment.specs.Chain.{Chain}
 use Rattle.walk.specs.declared.Scan.{Scan}
 use Rattle.walk.specs.declared.Walked.{Walked}
 use Rattle.walk.specs.declared.Walked.the-variants.{Ended}
@@ -29,7 +30,6 @@ use Rattle.recovery_walk.specs.Images.{imageWalk, images, walked, filledOf, aft
 use Rattle.recovery_walk.specs.Rows.{Pen, penWith, rowsIn, rowsAll}
 use Rattle.recovery_walk.proofs.Images.{image-calm}
 use Rattle.history.specs.Demand.{rowsFor, rowFor}
-use Rattle.history.proofs.Chain.{Chain}
 use Rattle.history.proofs.Over.{walk-over, rowsOver, rows-over}
 use Rattle.history.proofs.Shape.{size-some}
 use Rattle.history.proofs.Slots.{Stored}

@@ -6,7 +6,7 @@ use Prim.Native.Nat.{ℕ, _*_, _≤_, _/_, _<_}
 use native.Mathlib.Omega.{arith}
 use lib.ListN.{length, drop, length-append, length-drop}
 use lib.Seq.{drop-at}
-use Rattle.seglog.specs.Log.{View, logOf}
+use Rattle.seglog.specs.View.{View, logOf}
 use Rattle.seglog.specs.declared.Log.{Log}
 use Rattle.segment.specs.declared.Segment.{Segment}
 use Rattle.lists.specs.Outcome.{Outcome}

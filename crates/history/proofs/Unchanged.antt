@@ -5,7 +5,7 @@ use mathlib.Core.List.{List, []}
 use mathlib.Core.Path.{_≡_, sym, _∙_, ap}
 use Prim.Native.Nat.{ℕ, _<_, _≤_, _*_}
 use lib.ListN.{length}
-use Rattle.seglog.specs.Log.{View}
+use Rattle.seglog.specs.View.{View}
 use Rattle.seglog_prune.specs.Prune.{pruneRecentOf}
 use Rattle.seglog_prune.proofs.Decide.{pruned-same}
 use Rattle.segment.specs.declared.ImageRow.{ImageRow}

@@ -8,7 +8,8 @@ use native.Mathlib.Omega.{arith}
 use lib.ListN.{length}
 use borrow.Author.Tests.{lt-ltb, le-ltb, le-leb, eq-eqb, ne-eqb}
 use Rattle.seglog.proofs.View.{front-snoc, head-snoc}
-use Rattle.seglog.specs.Log.{View, logOf, frontOf, headOf, fittingOf}
+use Rattle.seglog.specs.View.{View, logOf, frontOf, headOf}
+use Rattle.seglog.specs.Fit.{fittingOf}
 use Rattle.seglog.specs.New.{roomyOf}
 use Rattle.segment.specs.declared.Segment.{Segment}
 use Rattle.seglog_prune.specs.Drop.{dropOld, dropNew}
@@ -21,13 +22,14 @@ use Rattle.recovery_walk.specs.Scan.{scanOf, judged, liveCount}
 use Rattle.segment.specs.declared.ImageRow.{ImageRow}
 use Rattle.image_rows.specs.ImageRows.{sortRows, rowsFit, lowestZero, oneApart}
 use Rattle.lists.specs.Outcome.{kept}
-use Rattle.recovery.specs.Recovery.{Restored, recoveryOf, recovered, keptOf, outcomeOf, oneZero}
-use Rattle.recovery.proofs.Laws.{recovered-rows}
+use Rattle.recovery.specs.Recovery.{Restored, recoveryOf, recovered, outcomeOf, oneZero}
+use Rattle.recovery.specs.Keeping.{keptOf}
+use Rattle.recovery.proofs.Recovery.{recovered-rows}
 use Rattle.seglog.proofs.Fit.{sizes-are}
 use Rattle.segment.specs.Segment.{endedAt}
+use Rattle.segment.specs.Chain.{Chain}
 use Rattle.history.specs.Demand.{idsIn, rowsFor, AnyOrder}
 use Rattle.walk.specs.Records.{recordsFrom}
-use Rattle.history.proofs.Chain.{Chain}
 use Rattle.history.proofs.Deliver.{delivered, items, deliver-chain, live-items, items-agree}
 use Rattle.history.proofs.Invariant.{Holds, some-live}
 use Rattle.history.proofs.Kept.{Cutting, cut-all}
@@ -47,7 +49,7 @@ use Rattle.history.proofs.Records.{from-agree, from-front, splice-whole
 use Rattle.history.proofs.Runs.{log-fitting}
 use Rattle.history.proofs.Same.{chain-same, old-rows}
 use Rattle.history.proofs.Scans.{Has, Seen, start-seen, Through, through, rowsChain, rows-through}
-use Rattle.history.proofs.Shape.{holds-fits, holds-few, sizes-few}
+use Rattle.history.proofs.Shape.{holds-few, sizes-few}
 use Rattle.history.proofs.Slots.{Stored}
 use Rattle.lists.proofs.AnyOrder.{any-length}
 use Rattle.history.proofs.Sorts.{sort-any, fit-any, apart-any}
@@ -212,7 +214,8 @@ module _ (a : View) (area : List ℕ) (z : View) (area′ : List ℕ) (f f′ : 
 
   words-are : words ≡ rowsChain area′ f′ (z .k) (z .c) s e order (z .segs)
   words-are =
-      rows-through area′ f′ (z .k) (z .c) s e order slots′ (z .segs) (h′ .i) (h′ .b) (h′ .j) (z .end + 1) startOf [] (h′ .low) (h′ .chain) seen
+      rows-through area′ f′ (z .k) (z .c) s e order slots′ (z .segs) (h′ .i) (h′ .b) (h′ .j) (z .end + 1) startOf [] (h′ .low)
+      (h′ .chain) seen
 
   -- the rows are those of the earlier images
   rows-same : words ≡ rowsAll area (a .c) s e (rowsFor (a .segs)) penOf
@@ -244,7 +247,8 @@ module _ (a : View) (area : List ℕ) (z : View) (area′ : List ℕ) (f f′ : 
       (first-same Gl Gt (log .segs) (dropOld s (a .segs)) (lh .i) (lh .b) (lh .j) (e + 1) (old-holds .i) (old-holds .b) (old-holds .j)
       (a .end + 1)
       some-kept grown (lh .chain) (old-holds .chain)) (omega arith) (lh .chain) (old-holds .chain) grown (λ i l. refl)
-      ∙ sym (rows-through area f (log .k) (log .c) s e order slots′ (log .segs) (lh .i) (lh .b) (lh .j) (e + 1) startOf [] (lh .low) (lh .chain)
+      ∙ sym (rows-through area f (log .k) (log .c) s e order slots′ (log .segs) (lh .i) (lh .b) (lh .j) (e + 1) startOf [] (lh .low)
+      (lh .chain)
       (start-seen s e (lh .b) order (lh .low) lower))
 
   items-are : delivered (logOf log) area′ words ≡ items f s (idsIn s e)
@@ -275,7 +279,8 @@ module _ (a : View) (area : List ℕ) (z : View) (area′ : List ℕ) (f f′ : 
       let fit = from-front f′ (y .min) (e + 1 - y .min) (y .max + 1 - y .min) (omega (arith, cutting .high)) in
       omega (arith, fit .0, head-is, head-stored .long)
 
-  closed : R.closedOf (z .k) (z .c) (z .m) area′ s e (walk .d .«end_of_e») words (frontOf (keptOf s e (z .segs))) (headOf (keptOf s e (z .segs)))
+  closed : R.closedOf (z .k) (z .c) (z .m) area′ s e (walk .d .«end_of_e») words (frontOf (keptOf s e (z .segs)))
+      (headOf (keptOf s e (z .segs)))
       ≡ recovered log area′ words
   closed =
       let y : Segment = cutting .y in

@@ -9,12 +9,15 @@ use lib.Dec.{eqb}
 use lib.ListN.{length, length-append}
 use borrow.Author.Tests.{le-ltb, eq-eqb, eqb-true, eqb-false}
 use Rattle.lists.proofs.Cases.{by-test}
-use Rattle.seglog.specs.Log.{View, logOf, emptyOf, sizesOf}
+use Rattle.seglog.specs.View.{View, logOf, emptyOf}
+use Rattle.seglog.specs.Fit.{sizesOf}
 use Rattle.seglog.specs.New.{roomyOf}
 use Rattle.segment.specs.declared.Segment.{Segment}
 use Rattle.seglog_prune.specs.Drop.{dropOld, dropNew, keepAt}
 use Rattle.seglog_prune.specs.Prune.{pruneOldestOf, pruned, startedAt, pruneRecentOf}
 use Rattle.segment.specs.declared.ImageRow.{ImageRow}
+use Rattle.segment.specs.Chain.{Chain}
+use Rattle.segment.proofs.Chain.{chain-le, chain-snoc}
 use Rattle.lists.specs.Each.{all, linked}
 use Rattle.lists.specs.Distinct.{distinct}
 use Rattle.lists.specs.Sort.{sort}
@@ -24,7 +27,6 @@ use Rattle.history.specs.Corollaries.{liveCount, WholeRangeGivesTheLog}
 use Rattle.history.specs.Demand.{AnyOrder, rowsFor, idsIn, recovering, listed}
 use Rattle.history.specs.History.{Held, lastUnder, begun}
 use Rattle.walk.specs.Records.{recordsFrom}
-use Rattle.history.proofs.Chain.{Chain, chain-le, chain-snoc}
 use Rattle.history.proofs.Invariant.{Live, Holds, some-live}
 use Rattle.history.proofs.Later.{after-refl}
 use Rattle.seglog_prune.proofs.Decide.{Inner, prune-passes, pruned-same}
@@ -113,7 +115,8 @@ module _ (a : View) (area : List ℕ) (f : ℕ → List ℕ) (h : Holds a area f
       let old : a ≡ d .older =
       pruned-same _ _ area area (sym (oldest-whole live) ∙ ap (pruneOldestOf a true area) p ∙ d .first) in
       pruned-same _ _ area area
-      (sym (d .then) ∙ ap (λ (x : View). pruneRecentOf x true area e) (sym old) ∙ ap (pruneRecentOf a true area) (sym q) ∙ recent-whole live)
+      (sym (d .then) ∙ ap (λ (x : View). pruneRecentOf x true area e) (sym old) ∙ ap (pruneRecentOf a true area) (sym q) ∙ recent-whole
+      live)
 
   whole-some : 0 < a .end → (rows : List ImageRow) → AnyOrder rows (rowsFor (a .segs)) → (index : List ℕ)
       → 4 * idsIn (a .start) (a .end) ≤ length index

@@ -7,7 +7,7 @@ use Prim.Native.Nat.{ℕ, _+_, _-_, _<_}
 use lib.ListN.{length, getD}
 use Rattle.walk.specs.Records.{recordsFrom}
 use Rattle.segment.specs.declared.Segment.{Segment}
-use Rattle.seglog.specs.Log.{fittingOf}
+use Rattle.seglog.specs.Fit.{fittingOf}
 use Rattle.segment.specs.Segment.{noSegment, imageIn}
 use Rattle.seglog.specs.New.{newOf}
 use Rattle.history.specs.History.{Call, Held, begun, run, lastUnder, refusalOf}

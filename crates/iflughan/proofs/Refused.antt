@@ -8,7 +8,7 @@ use lib.Dec.{eqb}
 use Rattle.lists.specs.Outcome.{Outcome}
 use Rattle.lists.proofs.Cases.{by-test}
 use Rattle.seglog.specs.declared.Log.{Log}
-use Rattle.seglog.specs.Log.{zeroLog}
+use Rattle.seglog.specs.View.{zeroLog}
 use Rattle.seglog_append.specs.Appending.{Left, appendAnswer}
 use Rattle.seglog_prune.specs.Prune.{Pruned, pruneAnswer}
 use Rattle.recovery.specs.Recovery as Recovery
@@ -27,7 +27,8 @@ abbrev Refused : ℕ → Type 0
 Refused n = n ≡ 0 → ⊥
 
 -- a refused append: id 0, and the log given
-pub append-refused : (l : Log) (o : Outcome Left) → let r = appendedOut (appendAnswer l o) in Refused (r .refusal) → (r .id ≡ 0) × (r .log ≡ l)
+pub append-refused : (l : Log) (o : Outcome Left) → let r = appendedOut (appendAnswer l o) in Refused (r .refusal) → (r .id ≡ 0) ×
+    (r .log ≡ l)
 append-refused l (Outcome.refused n) h = (refl, refl)
 append-refused l (Outcome.done w) h = absurd (h refl)
 
@@ -37,7 +38,8 @@ prune-refused l (Outcome.refused n) h = refl
 prune-refused l (Outcome.done p) h = absurd (h refl)
 
 -- a refused recovery: no rows, and the all-zero log
-pub recovery-refused : (o : Recovery.Recovery) → let r = recoveredOut (recoveryAnswer o) in Refused (r .refusal) → (r .rows ≡ 0) × (r .log ≡ zeroLog)
+pub recovery-refused : (o : Recovery.Recovery) → let r = recoveredOut (recoveryAnswer o) in Refused (r .refusal) → (r .rows ≡ 0) ×
+    (r .log ≡ zeroLog)
 recovery-refused (Outcome.refused n) h = (refl, refl)
 recovery-refused (Outcome.done a) h = absurd (h refl)
 

@@ -1,6 +1,6 @@
 pub mod ImageRows
-pub mod Listed
-pub mod Ways
+pub mod RowsListed
+pub mod ArrangeWays
 pub mod FitTurns
 pub mod SortTurns
 pub mod Unique

@@ -1,3 +1,4 @@
 pub mod ImageRows
+pub mod Promised
 pub mod Rows
 pub mod Arrange

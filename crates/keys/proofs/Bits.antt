@@ -1,5 +1,5 @@
 -- Two keys are the same exactly when all their 256 bits are: no bit is left out of a comparison.
--- Assumes nothing.
+-- Statements without a sentence of their own: specs/Promised.antt. Assumes nothing.
 use Prim.Native.Nat.{ℕ, zero, suc, _+_, _*_, _/_, _%_, _^_, _<_}
 use mathlib.Core.List.{List}
 use mathlib.Core.Path.{_≡_, ap, sym, _∙_}
@@ -7,7 +7,8 @@ use lib.ListN.{length, getD}
 use lib.Seq.{ext-getD}
 use native.Mathlib.Nat.{div-div-eq-div-mul, pow-suc, pow-succ'}
 use native.Mathlib.Omega.{arith}
-use Rattle.keys.specs.Bits.{bitOf, Key}
+use Rattle.keys.specs.Bits.{bitOf}
+use Rattle.keys.specs.Promised.{KeysBytesEqual, SameBits, KeysBitsEqual, KeysBitDiffers}
 use Rattle.keys.specs.Order.{compareKeys}
 use Rattle.keys.specs.declared.Side.the-variants.{Same}
 use Rattle.keys.proofs.Order.{compare-refl, compare-same}
@@ -32,25 +33,24 @@ bit-at a i j h =
     let r : (8 * i + j) % 8 ≡ j = omega arith in
     rw (q, r)
 
--- keys compare the same exactly when all their bytes are equal
-pub keys-bytes-equal : (a b : List ℕ) → (compareKeys a b ≡ Same → a ≡ b) × (a ≡ b → compareKeys a b ≡ Same)
+pub keys-bytes-equal : KeysBytesEqual
 keys-bytes-equal a b = (compare-same a b, λ e. rw e (compare-refl b))
 
-module _ (a b : List ℕ) (ka : Key a) (kb : Key b) where
-  byte : ((i : ℕ) → i < 256 → bitOf a i ≡ bitOf b i) → (i : ℕ) → i < length a → getD a i 0 ≡ getD b i 0
-  byte e i h =
-      let long = ka .long in
-      byte-bits 8 (getD a i 0) (getD b i 0) (ka .bytes i) (kb .bytes i)
-      (λ j g. sym (bit-at a i j g) ∙ e (8 * i + j) (omega arith) ∙ bit-at b i j g)
+-- keys that compare the same have the same bits
+bits-same : (a b : List ℕ) → compareKeys a b ≡ Same → (i : ℕ) → bitOf a i ≡ bitOf b i
+bits-same a b e i = ap (λ (k : List ℕ). bitOf k i) (compare-same a b e)
 
-  -- keys compare the same exactly when all their 256 bits are
-  pub keys-bits-equal : (compareKeys a b ≡ Same → (i : ℕ) → i < 256 → bitOf a i ≡ bitOf b i)
-      × (((i : ℕ) → i < 256 → bitOf a i ≡ bitOf b i) → compareKeys a b ≡ Same)
-  keys-bits-equal = (
-    (λ e i h. ap (λ (k : List ℕ). bitOf k i) (compare-same a b e)),
-    λ e. keys-bytes-equal a b .1 (ext-getD 0 a b (ka .long ∙ sym (kb .long)) (byte e)),
-  )
+pub keys-bits-equal : KeysBitsEqual
+keys-bits-equal a b ka kb = (
+  (λ e i h. bits-same a b e i),
+  λ e. keys-bytes-equal a b .1 (ext-getD 0 a b (ka .long ∙ sym (kb .long)) (byte e)),
+)
+  where
+    byte : SameBits a b → (i : ℕ) → i < length a → getD a i 0 ≡ getD b i 0
+    byte e i h =
+        let long = ka .long in
+        byte-bits 8 (getD a i 0) (getD b i 0) (ka .bytes i) (kb .bytes i)
+        (λ j g. sym (bit-at a i j g) ∙ e (8 * i + j) (omega arith) ∙ bit-at b i j g)
 
-  -- keys that differ in any one bit are not the same key
-  pub keys-bit-differs : (i : ℕ) → (bitOf a i ≡ bitOf b i → ⊥) → compareKeys a b ≡ Same → ⊥
-  keys-bit-differs i d e = d (ap (λ (k : List ℕ). bitOf k i) (compare-same a b e))
+pub keys-bit-differs : KeysBitDiffers
+keys-bit-differs a b i d e = d (bits-same a b e i)

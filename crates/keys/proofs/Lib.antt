@@ -1,7 +1,7 @@
 pub mod Order
 pub mod Place
-pub mod Shift
-pub mod Halving
+pub mod PlaceShift
+pub mod PlaceHalving
 pub mod Sorting
 pub mod Ranks
 pub mod Bits

@@ -1,5 +1,6 @@
 pub mod Order
 pub mod Bits
+pub mod Promised
 pub mod Place
 pub mod Sorting
 pub mod Ranks

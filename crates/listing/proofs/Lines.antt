@@ -47,13 +47,15 @@ rest-turn (suc n) {at} {end} {then} {i} {text} {first} {now} {next} {index} h g 
     }
 
 -- no row is left, or the index has no more
-pub rest-ends : (left : ℕ) {at end i : ℕ} {text first now index : List ℕ} → (left ≡ 0) → Rest at text first index end left i now → Put at text first end now
+pub rest-ends : (left : ℕ) {at end i : ℕ} {text first now index : List ℕ} → (left ≡ 0) → Rest at text first index end left i now → Put at
+    text first end now
 unfolding rowLines
 rest-ends zero h r = r .makes _ _ (put-none (r .fits))
 rest-ends (suc n) h r = absurd (omega arith)
 
 -- the index has no more words
-pub rest-short : (left : ℕ) {at end i : ℕ} {text first now index : List ℕ} → 0 < left → length index - i < 4 → Rest at text first index end left i now
+pub rest-short : (left : ℕ) {at end i : ℕ} {text first now index : List ℕ} → 0 < left → length index - i < 4 → Rest at text first index
+    end left i now
     → Put at text first end now
 unfolding rowLines
 rest-short zero h g r = absurd (omega arith)

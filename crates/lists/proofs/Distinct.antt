@@ -2,7 +2,7 @@
 -- numbers; and an array of marks, which tells the numbers that were seen. Assumes nothing.
 use mathlib.Core.Path.{_≡_, refl, sym, ap, subst, _∙_}
 use mathlib.Core.Bool.{Bool, true, false, _&&_, not, and-false}
-use mathlib.Core.List.{List, [], _∷_, _++_, append-nil}
+use mathlib.Core.List.{List, [], _∷_, _++_, append-nil, map}
 use Prim.Native.Nat.{ℕ, zero, suc, _≤_, _<_}
 use native.Mathlib.Omega.{arith}
 use lib.ListN.{length, getD, take, drop, set, replicate, length-append, length-set, length-replicate}
@@ -89,6 +89,26 @@ module _ {A : Type 0} (key : A → ℕ) where
   -- one at the end
   pub distinct-snoc : (xs : List A) (x : A) → distinct key (xs ++ (x ∷ [])) ≡ distinct key (x ∷ xs)
   distinct-snoc xs x = distinct-middle xs x [] ∙ ap (λ (l : List A). distinct key (x ∷ l)) (append-nil xs)
+
+  pub distinct-more : (xs : List A) (x : A) → distinct key xs ≡ true → fresh key (key x) xs ≡ true → distinct key (xs ++ (x ∷ [])) ≡ true
+  distinct-more xs x h n = distinct-snoc xs x ∙ distinct-cons x xs ∙ both-and _ _ n h
+
+  -- taken apart at the end
+  pub snoc-distinct : (xs : List A) (x : A) → distinct key (xs ++ (x ∷ [])) ≡ true
+      → (distinct key xs ≡ true) × (fresh key (key x) xs ≡ true)
+  snoc-distinct xs x h =
+      let t = and-both (fresh key (key x) xs) (distinct key xs) (sym (distinct-cons x xs) ∙ sym (distinct-snoc xs x) ∙ h) in (t .1, t .0)
+
+  -- the numbers alone count
+  fresh-keys : (n : ℕ) (xs : List A) → fresh key n xs ≡ fresh (λ m. m) n (map key xs)
+  unfolding all
+  fresh-keys n [] = refl
+  fresh-keys n (x ∷ xs) = ap (λ (t : Bool). not (eqb n (key x)) && t) (fresh-keys n xs)
+
+  pub distinct-keys : (xs : List A) → distinct key xs ≡ distinct (λ m. m) (map key xs)
+  unfolding distinct
+  distinct-keys [] = refl
+  distinct-keys (x ∷ xs) = rw (fresh-keys (key x) xs, distinct-keys xs) refl
 
   -- in any order
   pub distinct-any : (l t : List A) → AnyOrder l t → distinct key l ≡ distinct key t
@@ -213,3 +233,10 @@ module _ {A : Type 0} (key : A → ℕ) where
         let same : s ≡ key x = eqb-true s (key x) e in
         simp e (rw (← same, getD-set-same (marks xs) s 1 0 (omega (arith, marks-length xs))) refl))
         (λ e. simp e (ap (λ (m : ℕ). eqb m 0) (getD-set-other (marks xs) (key x) s 1 0 (eqb-false s (key x) e)) ∙ marks-at xs s h))
+
+    pub mark-none : (xs : List A) (s : ℕ) → s < n → getD (marks xs) s 0 ≡ 0 → fresh key s xs ≡ true
+    mark-none xs s h e = sym (marks-at xs s h) ∙ eq-eqb _ 0 e
+
+    -- a mark: some element has it
+    pub mark-some : (xs : List A) (s : ℕ) → s < n → (getD (marks xs) s 0 ≡ 0 → ⊥) → fresh key s xs ≡ false
+    mark-some xs s h e = sym (marks-at xs s h) ∙ ne-eqb _ 0 e

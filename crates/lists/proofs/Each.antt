@@ -77,6 +77,12 @@ module _ {A : Type 0} where
     all-at d (x ∷ xs) zero h l = and-both (p x) (all p xs) h .0
     all-at d (x ∷ xs) (suc i) h l = all-at d xs i (and-both (p x) (all p xs) h .1) (omega arith)
 
+    -- what it says of each
+    pub all-every : (P : A → Type 0) → ((x : A) → p x ≡ true → P x) → (xs : List A) → all p xs ≡ true → Every P xs
+    unfolding all
+    all-every P f [] h = tt
+    all-every P f (x ∷ xs) h = let t = and-both (p x) (all p xs) h in (f x (t .0), all-every P f xs (t .1))
+
     -- and the other way
     pub at-all : (d : A) (xs : List A) → ((i : ℕ) → i < length xs → p (getD xs i d) ≡ true) → all p xs ≡ true
     unfolding all
@@ -99,3 +105,19 @@ module _ {A : Type 0} where
         one [] g = refl
         one (x ∷ []) g = refl
         one (x ∷ y ∷ l) g = absurd (omega arith)
+
+    -- place by place
+    pub linked-at : (xs : List A) (i : ℕ) → linked r xs ≡ true → suc i < length xs → r (getD xs i d) (getD xs (suc i) d) ≡ true
+    unfolding linked
+    linked-at [] i h l = absurd (omega arith)
+    linked-at (x ∷ []) i h l = absurd (omega arith)
+    linked-at (x ∷ y ∷ xs) zero h l = and-both (r x y) (linked r (y ∷ xs)) h .0
+    linked-at (x ∷ y ∷ xs) (suc i) h l = linked-at (y ∷ xs) i (and-both (r x y) (linked r (y ∷ xs)) h .1) (omega arith)
+
+    -- and the other way
+    pub at-linked : (xs : List A) → ((i : ℕ) → suc i < length xs → r (getD xs i d) (getD xs (suc i) d) ≡ true) → linked r xs ≡ true
+    unfolding linked
+    at-linked [] h = refl
+    at-linked (x ∷ []) h = refl
+    at-linked (x ∷ y ∷ xs) h =
+        both-and (r x y) (linked r (y ∷ xs)) (h 0 (omega arith)) (at-linked (y ∷ xs) (λ i l. h (suc i) (omega arith)))

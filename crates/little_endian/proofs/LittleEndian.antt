@@ -1,5 +1,5 @@
 -- The laws of little-endian numbers, once, over the width: what is written is read back, wherever it stands, and other bytes stay.
--- Assumes nothing.
+-- Statements without a sentence of their own: specs/Promised.antt. Assumes nothing.
 use mathlib.Core.Path.{_≡_, refl, sym, ap, _∙_}
 use mathlib.Core.Bool.{true, false}
 use mathlib.Core.List.{List, [], _∷_, _++_}
@@ -13,9 +13,8 @@ use borrow.Author.Tests.{le-leb, lt-leb}
 use lib.ListN.{length, getD, take, drop, length-append, length-take}
 use lib.Seq.{getD-append-seam, append-snoc}
 use Rattle.lists.specs.Outcome.{refused, done, either}
-use Rattle.lists.specs.Splice.{part, splice}
 use Rattle.lists.proofs.Bools.{zero-is-not-one}
-use Rattle.lists.proofs.Outcome.{refused-is-not-done, done-injective}
+use Rattle.lists.proofs.Outcome.{refused-is-not-done, done-injective, determined}
 use Rattle.lists.proofs.Splice.{splice-fits, splice-before, splice-behind}
 use Rattle.lists.proofs.Cases.{by-test, by-order}
 use Rattle.little_endian.specs.declared.U32At.{U32At}
@@ -23,6 +22,7 @@ use Rattle.little_endian.specs.declared.U32At.the-variants as U32At
 use Rattle.little_endian.specs.declared.U64At.{U64At}
 use Rattle.little_endian.specs.declared.U64At.the-variants as U64At
 use Rattle.little_endian.specs.LittleEndian.{leBytes, leAt, standAt, numberAt, u32Outcome, u64Outcome, u32By, u32At}
+use Rattle.little_endian.specs.Promised.{WriteRead, LeRead}
 
 -- a number of n bytes has n bytes
 pub le-bytes-length : (n v : ℕ) → length (leBytes n v) ≡ n
@@ -34,8 +34,7 @@ le-bytes-length (suc n) v = ap suc (le-bytes-length n (v / 256))
 less : (v n : ℕ) → v < 256 ^ suc n → v / 256 < 256 ^ n
 less v n h = div-lt-iff-lt-mul (zero-lt-suc 255) .1 (rw pow-suc at h)
 
--- a number's bytes, wherever they stand, spell it
-pub le-read : (n v : ℕ) (pre post : List ℕ) (at : ℕ) → at ≡ length pre → v < 256 ^ n → leAt n (pre ++ (leBytes n v ++ post)) at ≡ v
+pub le-read : LeRead
 unfolding leAt leBytes
 le-read zero v pre post at e h = omega arith
 le-read (suc n) v pre post at e h =
@@ -46,13 +45,7 @@ le-read (suc n) v pre post at e h =
     (le-read n (v / 256) (pre ++ (v % 256 ∷ [])) post (suc at) (rw length-append (omega arith)) (less v n h)) in
     omega arith
 
--- what is written is read back, and everything before and behind it stays
-pub record Kept (n v at : ℕ) (s : List ℕ) : Type 0 where
-  pub back : leAt n (splice at (leBytes n v) s) at ≡ v
-  pub before : (a k : ℕ) → a + k ≤ at → part a k (splice at (leBytes n v) s) ≡ part a k s
-  pub behind : (a : ℕ) → at + n ≤ a → drop a (splice at (leBytes n v) s) ≡ drop a s
-
-pub write-read : (n v at : ℕ) (s : List ℕ) → at + n ≤ length s → v < 256 ^ n → Kept n v at s
+pub write-read : WriteRead
 write-read n v at s fits small =
     let long = le-bytes-length n v in
     let front : length (take at s) ≡ at = length-take at s ∙ omega arith in
@@ -125,7 +118,7 @@ u32-by (U32At.Value v) = refl
 u32-by U32At.Short = refl
 
 pub u32-determined : (a b : U32At) → u32Outcome a ≡ u32Outcome b → a ≡ b
-u32-determined a b e = sym (u32-by a) ∙ ap u32By e ∙ u32-by b
+u32-determined = determined u32Outcome u32By u32-by
 
 -- what `read_u32` answers, by its contract, as the case that it is
 pub u32-answer : (a : U32At) (s : List ℕ) (at : ℕ) → u32Outcome a ≡ numberAt 4 s at → a ≡ u32At s at
@@ -137,7 +130,7 @@ u64-by (U64At.Value v) = refl
 u64-by U64At.Short = refl
 
 pub u64-determined : (a b : U64At) → u64Outcome a ≡ u64Outcome b → a ≡ b
-u64-determined a b e = sym (u64-by a) ∙ ap (either (λ n. U64At.Short) (λ v. U64At.Value v)) e ∙ u64-by b
+u64-determined = determined u64Outcome (either (λ n. U64At.Short) (λ v. U64At.Value v)) u64-by
 
 -- ---- the u32 at a place, by whether its bytes stand
 

@@ -1,6 +1,6 @@
 -- The laws of the padded end, once, over any page size p above 0; and the two sums that the code works out, each equal to it.
--- Assumes nothing.
-use mathlib.Core.Path.{_≡_, refl, sym, ap, _∙_}
+-- Statements without a sentence of their own: specs/Promised.antt. Assumes nothing.
+use mathlib.Core.Path.{_≡_, refl, ap, _∙_}
 use mathlib.Core.Bool.{Bool, true, false}
 use Prim.Native.Nat.{ℕ, zero, suc, _+_, _-_, _*_, _/_, _%_, _≤_, _<_}
 use native.Mathlib.Nat.{div-add-mod', mod-lt, mul-mod-left, mul-le-mul-right, suc-mul, add-mod, zero-mod, add-mul, one-mul}
@@ -10,6 +10,7 @@ use borrow.Author.Tests.{eqb-true, eqb-false}
 use Rattle.lists.specs.Choice.{pick}
 use Rattle.lists.proofs.Cases.{by-order}
 use Rattle.page.specs.Page.{multipleFrom, paddedEnd}
+use Rattle.page.specs.Promised.{PadMultiple, PadGe, PadLt, PadLeast, PadWhole, PadMonotone, PadRounded, PadAbove}
 
 -- a multiple is p times its quotient
 pub whole : (p x : ℕ) → x % p ≡ 0 → x / p * p ≡ x
@@ -52,51 +53,42 @@ module _ (p x : ℕ) (some : 0 < p) where
   rounded-high : rounded < x + p
   rounded-high = omega (arith, div-add-mod' (x + (p - 1)) p)
 
-  -- the reader's sum is the next multiple
-  pub pad-rounded : paddedEnd p x ≡ (x + (p - 1)) / p * p
-  unfolding paddedEnd
-  pad-rounded = search-finds p p x rounded (mul-mod-left _ p) rounded-low rounded-high (omega (arith, rounded-high))
-
-  -- it is a multiple
-  pub pad-multiple : paddedEnd p x % p ≡ 0
-  pad-multiple = ap (λ (k : ℕ). k % p) pad-rounded ∙ mul-mod-left _ p
-
-  -- it is x or more
-  pub pad-ge : x ≤ paddedEnd p x
-  pad-ge = omega (arith, pad-rounded, rounded-low)
-
-  -- it is less than a page above x
-  pub pad-lt : paddedEnd p x < x + p
-  pad-lt = omega (arith, pad-rounded, rounded-high)
-
   -- it is the only multiple from x on and less than a page above
   pub pad-is : (y : ℕ) → y % p ≡ 0 → x ≤ y → y < x + p → paddedEnd p x ≡ y
   unfolding paddedEnd
   pad-is y hy le lt = search-finds p p x y hy le lt (omega arith)
 
-  -- no multiple from x on is less
-  pub pad-least : (y : ℕ) → y % p ≡ 0 → x ≤ y → paddedEnd p x ≤ y
-  pad-least y hy le =
-      by-order (x + p) y (λ h. omega (arith, pad-lt)) (λ h. omega (arith, pad-is y hy le h))
+pub pad-rounded : PadRounded
+pad-rounded p x some = pad-is p x some (rounded p x some) (mul-mod-left _ p) (rounded-low p x some) (rounded-high p x some)
 
-  -- a multiple is its own padded end
-  pub pad-whole : x % p ≡ 0 → paddedEnd p x ≡ x
-  pad-whole h = pad-is x h (omega arith) (omega arith)
+pub pad-multiple : PadMultiple
+pad-multiple p x some = ap (λ (k : ℕ). k % p) (pad-rounded p x some) ∙ mul-mod-left _ p
+
+pub pad-ge : PadGe
+pad-ge p x some = omega (arith, pad-rounded p x some, rounded-low p x some)
+
+pub pad-lt : PadLt
+pad-lt p x some = omega (arith, pad-rounded p x some, rounded-high p x some)
+
+pub pad-least : PadLeast
+pad-least p x some y hy le =
+    by-order (x + p) y (λ h. omega (arith, pad-lt p x some)) (λ h. omega (arith, pad-is p x some y hy le h))
+
+pub pad-whole : PadWhole
+pad-whole p x some h = pad-is p x some x h (omega arith) (omega arith)
 
 -- padding twice changes nothing more
 pub pad-idempotent : (p x : ℕ) → 0 < p → paddedEnd p (paddedEnd p x) ≡ paddedEnd p x
 pad-idempotent p x some = pad-whole p (paddedEnd p x) some (pad-multiple p x some)
 
--- a later end has no earlier padded end
-pub pad-monotone : (p x y : ℕ) → 0 < p → x ≤ y → paddedEnd p x ≤ paddedEnd p y
+pub pad-monotone : PadMonotone
 pad-monotone p x y some h = pad-least p x some (paddedEnd p y) (pad-multiple p y some) (omega (arith, pad-ge p y some))
 
 -- two multiples make a multiple
 pub multiple-add : (p x y : ℕ) → x % p ≡ 0 → y % p ≡ 0 → (x + y) % p ≡ 0
 multiple-add p x y hx hy = add-mod x y p ∙ rw (hx, hy) (zero-mod p)
 
--- the writer's way: where p does not divide x, one page more than the whole ones below it
-pub pad-above : (p x : ℕ) → 0 < p → (x % p ≡ 0 → ⊥) → paddedEnd p x ≡ (x / p + 1) * p
+pub pad-above : PadAbove
 pad-above p x some odd =
     let up : (x / p + 1) * p ≡ x / p * p + p = add-mul (x / p) 1 p ∙ ap (λ (k : ℕ). x / p * p + k) (one-mul p) in
     pad-is p x some ((x / p + 1) * p) (mul-mod-left _ p) (omega (arith, div-add-mod' x p, mod-lt x some))

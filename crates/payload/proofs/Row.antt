@@ -16,7 +16,8 @@ use Rattle.lists.specs.Choice.{_⇒_, first}
 use Rattle.lists.specs.Splice.{part}
 use Rattle.lists.proofs.Bools.{and-both, clash}
 use Rattle.seglog.specs.declared.Log.{Log}
-use Rattle.seglog.specs.Log.{fittingOf, plainOf, shapedOf, viewOf}
+use Rattle.seglog.specs.View.{plainOf, viewOf}
+use Rattle.seglog.specs.Fit.{fittingOf, shapedOf}
 use Rattle.delta.specs.Reading.{decodedOf}
 use Rattle.payload.specs.declared.RowAnswer.{RowAnswer}
 use Rattle.payload.specs.declared.RowAnswer.the-variants.{Good, NotShaped, Outside}

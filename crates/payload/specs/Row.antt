@@ -8,7 +8,7 @@ use lib.Dec.{eqb, ltb, leb}
 use Rattle.lists.specs.Choice.{pick, _⇒_, first}
 use Rattle.lists.specs.Splice.{part}
 use Rattle.seglog.specs.declared.Log.{Log}
-use Rattle.seglog.specs.Log.{fittingOf}
+use Rattle.seglog.specs.Fit.{fittingOf}
 use Rattle.payload.specs.declared.RowAnswer.{RowAnswer}
 use Rattle.payload.specs.declared.RowAnswer.the-variants.{Good, NotShaped, Outside}
 

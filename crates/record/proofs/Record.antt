@@ -1,20 +1,21 @@
 -- The laws of a record's bytes and of reading headers: how long they are, the cases of what is read, that an answer is determined by
--- its number and value, and that a record's bytes, wherever they stand, are read as its header. Assumes nothing.
+-- its number and value, and that a record's bytes, wherever they stand, are read as its header. Statements without a sentence of their
+-- own: specs/Promised.antt. Assumes nothing.
 use mathlib.Core.Path.{_≡_, refl, sym, ap, _∙_}
 use mathlib.Core.Bool.{Bool, true, false}
-use mathlib.Core.List.{List, [], _∷_, _++_, append-assoc}
+use mathlib.Core.List.{List, _++_, append-assoc}
 use Prim.Native.Nat.{ℕ, _+_, _-_, _%_, _^_, _≤_, _<_}
 use native.Mathlib.Omega.{arith}
-use lib.ListN.{length, take, drop, replicate, length-append, length-replicate}
+use lib.ListN.{length, take, replicate, length-append, length-replicate}
 use lib.Seq.{take-at, drop-at}
-use lib.Dec.{ltb, leb, lit<}
-use borrow.Author.Tests.{lt-ltb, le-ltb, ltb-true, ltb-false, le-leb}
+use lib.Dec.{ltb, lit<}
+use borrow.Author.Tests.{lt-ltb, le-ltb, ltb-false}
 use Rattle.lists.specs.Choice.{pick}
 use Rattle.lists.specs.Outcome.{refused, done}
 use Rattle.lists.specs.Splice.{part, splice}
 use Rattle.lists.proofs.Bools.{zero-is-not-one}
+use Rattle.lists.proofs.Outcome.{determined}
 use Rattle.lists.proofs.Splice.{splice-join}
-use Rattle.page.specs.Page.{paddedEnd}
 use Rattle.page.proofs.Page.{pad-ge, pad-lt, pad-multiple}
 use Rattle.little_endian.specs.LittleEndian.{leAt, leBytes}
 use Rattle.little_endian.proofs.LittleEndian.{le-bytes-length, le-read}
@@ -22,6 +23,7 @@ use Rattle.record.specs.declared.RecordHeader.{RecordHeader}
 use Rattle.record.specs.declared.HeaderAnswer.{HeaderAnswer}
 use Rattle.record.specs.declared.HeaderAnswer.the-variants.{Header, Short, TooLong}
 use Rattle.record.specs.Record.{maxPayload, headerBytes, recordRoom, recordBytes, headerOutcome, headerOf, headerBy, headerAt}
+use Rattle.record.specs.Promised.{RecordLength, RecordReads, RecordPayload}
 
 -- a header of a length and an id
 abbrev pub header : ℕ → ℕ → RecordHeader
@@ -49,8 +51,7 @@ pub room-pages : (n : ℕ) → recordRoom n % 4096 ≡ 0
 unfolding recordRoom
 room-pages n = pad-multiple 4096 (12 + n) (lit< tt)
 
--- a record's bytes fill its room
-pub record-length : (id : ℕ) (p : List ℕ) → length (recordBytes id p) ≡ recordRoom (length p)
+pub record-length : RecordLength
 unfolding recordBytes
 record-length id p =
     simp (length-append, le-bytes-length, length-replicate) (omega (arith, room-ge (length p)))
@@ -109,7 +110,7 @@ header-by TooLong = refl
 
 -- an answer is determined by its number and value
 pub header-determined : (a b : HeaderAnswer) → headerOutcome a ≡ headerOutcome b → a ≡ b
-header-determined a b e = sym (header-by a) ∙ ap headerBy e ∙ header-by b
+header-determined = determined headerOutcome headerBy header-by
 
 -- what `read_header` answers, by its contract, as the case that it is
 pub header-answer : (a : HeaderAnswer) (img : List ℕ) (pos : ℕ) → headerOutcome a ≡ headerOf img pos → a ≡ headerAt img pos
@@ -138,9 +139,7 @@ readable img pos n i e = go (ltb (length img - pos) 12) (ltb maxPayload (leAt 4 
         let k : leAt 8 img (pos + 4) ≡ i = ap (λ (k : RecordHeader). k .id) same in
         record { room = ltb-false _ _ ea; small = omega (arith, ltb-false maxPayload (leAt 4 img pos) eb); length-there = l; id-there = k }
 
--- a record's bytes, wherever they stand, are read as its header: for any payload of at most 2^30 bytes and any id of 64 bits
-pub record-reads : (id : ℕ) (p pre post : List ℕ) (at : ℕ) → at ≡ length pre → length p ≤ maxPayload → id < 2 ^ 64
-    → headerOf (pre ++ (recordBytes id p ++ post)) at ≡ done (header (length p) id)
+pub record-reads : RecordReads
 unfolding recordBytes
 record-reads id p pre post at e small fits =
     let tail : List ℕ = p ++ padding (length p) in
@@ -160,14 +159,13 @@ record-reads id p pre post at e small fits =
     ∙ le-read 8 id (pre ++ len4) (tail ++ post) (at + 4) (rw (length-append, le-bytes-length) (omega arith)) (omega arith) in
     header-reads img at (length p) id (omega (arith, room-ge (length p))) r4 r8 small
 
--- the same, as an answer of `read_header`
+-- a record's bytes are read as its header, as an answer of `read_header`
 pub record-header : (id : ℕ) (p pre post : List ℕ) (at : ℕ) → at ≡ length pre → length p ≤ maxPayload → id < 2 ^ 64
     → headerAt (pre ++ (recordBytes id p ++ post)) at ≡ Header (header (length p) id)
 unfolding headerAt
 record-header id p pre post at e small fits = ap headerBy (record-reads id p pre post at e small fits)
 
--- a record's payload stands twelve bytes in
-pub record-payload : (id : ℕ) (p post : List ℕ) → part 12 (length p) (recordBytes id p ++ post) ≡ p
+pub record-payload : RecordPayload
 record-payload id p post =
     let h : List ℕ = headerBytes (header (length p) id) in
     let is : recordBytes id p ++ post ≡ h ++ (p ++ (padding (length p) ++ post)) =

@@ -1,5 +1,5 @@
 -- "Recovery's answer and rows depend only on K, C, M, the area's length, the image rows, s, e, the index length and the headers walked."
--- The proof: proofs/Dependence.antt. Assumes nothing.
+-- The proof: proofs/Depend.antt. Assumes nothing.
 use mathlib.Core.Path.{_≡_}
 use mathlib.Core.List.{List}
 use mathlib.Core.Bool.{Bool, true, _&&_, not}

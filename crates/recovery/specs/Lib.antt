@@ -1,3 +1,5 @@
+pub mod Keeping
 pub mod Recovery
-pub mod Kept
 pub mod Depend
+pub mod Promised
+pub mod ByHand

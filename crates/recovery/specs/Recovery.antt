@@ -2,21 +2,23 @@
 use mathlib.Core.Path.{_≡_}
 use mathlib.Core.List.{List, [], _∷_, _++_}
 use mathlib.Core.Bool.{Bool, true, false, _&&_, _||_, not}
-use Prim.Native.Nat.{ℕ, _/_}
-use lib.ListN.{length, drop}
-use lib.Dec.{ltb, leb, eqb}
-use Rattle.lists.specs.Choice.{pick, _⇒_, first}
+use Prim.Native.Nat.{ℕ, _/_, _≤_}
+use lib.ListN.{length, take, drop}
+use lib.Dec.{ltb, eqb}
+use Rattle.lists.specs.Choice.{_⇒_, first}
 use Rattle.lists.specs.Outcome.{Outcome, refused, done, either, kept}
 use Rattle.segment.specs.declared.Segment.{Segment}
 use Rattle.segment.specs.Segment.{endedAt, paddedTo}
-use Rattle.seglog.specs.Log.{View, emptyOf, logOf, zeroLog, headOf, frontOf}
+use Rattle.seglog.specs.View.{View, emptyOf, logOf, zeroLog, headOf, frontOf}
 use Rattle.seglog.specs.New.{roomyOf}
 use Rattle.segment.specs.declared.ImageRow.{ImageRow}
 use Rattle.recovery_walk.specs.Images.{Found}
 use Rattle.recovery_walk.specs.Rows.{rowsAll, penOf}
 use Rattle.recovery_walk.specs.Scan.{scanOf}
 use Rattle.recovery.specs.declared.Recovered.{Recovered}
-use Rattle.image_rows.specs.ImageRows.{sortRows, rowsFit, lowestZero, oneApart}
+use Rattle.image_rows.specs.declared.Rows.{Rows}
+use Rattle.image_rows.specs.ImageRows.{sortRows, rowsInside, rowsFit, lowestZero, oneApart}
+use Rattle.recovery.specs.Keeping.{keptOf}
 
 -- what a recovery leaves: the log, the area and the words that the index begins with
 pub record Restored : Type 0 where
@@ -33,15 +35,6 @@ abbrev pub recovered : View → (area words : List ℕ) → Recovery
 recovered a area words = done (record { log = a; area = area; words = words })
 
 -- ---- what an accepted scan leaves
-
--- the segment holds a record with s <= id <= e
-unfoldable pub holdsLive : ℕ → ℕ → Segment → Bool
-holdsLive s e g = leb (g .min) e && leb s (g .max)
-
--- "segments holding a live record are kept"
-unfoldable pub keptOf : ℕ → ℕ → List Segment → List Segment
-keptOf s e [] = []
-keptOf s e (g ∷ gs) = pick (holdsLive s e g) (g ∷ keptOf s e gs) (keptOf s e gs)
 
 -- the log with the head g after hs
 abbrev pub closedOf : (k c m : ℕ) → List ℕ → (s e x : ℕ) → List ℕ → List Segment → Segment → Recovery
@@ -100,3 +93,19 @@ pub record RecoveryDid (o : Recovery) (area index : List ℕ) (r : Recovered) (a
   pub answer : r ≡ recoveryAnswer o
   pub bytes : area′ ≡ recoveryArea area o
   pub words : index′ ≡ recoveryIndex index o
+
+-- ---- the code's way to the scan
+
+-- the first refusal before the scan, from whether the sizes fit (1) and the refusal of the rows (13 to 15): 0 where there is none
+unfoldable pub firstRefusal : Bool → (s e rows : ℕ) → ℕ
+firstRefusal fit s e rows = first ((not fit ⇒ 1) ∷ (oneZero s e ⇒ 11) ∷ (ltb e s ⇒ 12) ∷ []) rows
+
+-- what the scan of the first rows of an array asks: 1 and 11 to 15 were not met, and the range is not (0, 0)
+pub record ScanPre (k c m : ℕ) (area : List ℕ) (images : Rows) (s e : ℕ) : Type 0 where
+  pub roomy : roomyOf k c m (length area) ≡ true
+  pub order : s ≤ e
+  pub some : s ≡ 0 → ⊥
+  pub few : images .count ≤ 64
+  pub inside : rowsInside k c (take (images .count) (images .rows)) ≡ true
+  pub low : lowestZero (take (images .count) (images .rows)) ≡ false
+  pub apart : oneApart (take (images .count) (images .rows)) ≡ true

@@ -3,8 +3,7 @@
 use mathlib.Core.Path.{_≡_, refl, sym, ap, _∙_}
 use mathlib.Core.Logic.{_⊎_, ⊎-elim}
 use mathlib.Core.List.{List, [], _∷_}
-use mathlib.Core.Bool.{Bool, true, false}
-use Prim.Native.Nat.{ℕ, _+_, _-_, _*_, _≤_, _<_}
+use Prim.Native.Nat.{ℕ, _+_, _-_, _*_, _≤_}
 use native.Mathlib.Omega.{arith}
 use lib.ListN.{length, take, drop, length-take, length-drop}
 use Rattle.lists.specs.Outcome.{Outcome, refused, done}
@@ -23,20 +22,15 @@ use Rattle.walk.specs.declared.Walked.the-variants.{Ended, Faulted}
 use Rattle.walk.specs.Judging.{gapOf, openedOf, startOf}
 use Rattle.walk.specs.Walk.{walkBy, walkOf}
 use Rattle.walk.specs.Headers.{EachHeader}
-use Rattle.walk.proofs.Depends as Walks
+use Rattle.walk.proofs.Headers as Walks
 use Rattle.recovery_walk.specs.declared.Scanned.{Scanned}
 use Rattle.recovery_walk.specs.Images.{imageWalk, Found, walked, images, behind, filledOf}
 use Rattle.recovery_walk.specs.Rows.{Pen, penWith, movedOf, rowsIn, rowsAll, penOf}
 use Rattle.recovery_walk.specs.Scan.{judged, scanOf, scannedOf, indexOf, ScanDid}
 use Rattle.recovery_walk.specs.Headers.{EachInRow, EachWalked, no-image, gap-over, image-here, SameHeader}
+use Rattle.recovery_walk.specs.Promised.{ScanDepends, PayloadUnread}
 use Rattle.recovery_walk.proofs.Images.{image-gapped, image-calm, images-fault, images-next, first-walked}
 use Rattle.recovery_walk.proofs.Rows.{rows-end, rows-next, rows-fault, rows-scan}
-
--- what the scans of two areas agree in: the outcome, and what any index is afterwards
-pub record ScansAgree (area area′ : List ℕ) (c s e : ℕ) (rows : List ImageRow) (words : ℕ) : Type 0 where
-  pub outcome : scanOf area c s e rows words ≡ scanOf area′ c s e rows words
-  pub index : (l : List ℕ) → indexOf (rowsAll area c s e rows penOf) (scanOf area c s e rows words) l
-      ≡ indexOf (rowsAll area′ c s e rows penOf) (scanOf area′ c s e rows words) l
 
 module _ (area area′ : List ℕ) (c s e : ℕ) (long : length area ≡ length area′) where
   -- ---- one image
@@ -138,34 +132,34 @@ module _ (area area′ : List ℕ) (c s e : ℕ) (long : length area ≡ length 
       ∙ rows-depend rs (f .state) d (f .later) (here .words) (k (f .state) (f .image)) (f .on)
       ∙ ap (rowsAll area′ c s e rs) (sym to ∙ rows-same r from each ws)
 
-  -- ---- the scan
+-- ---- the scan
 
-  -- two areas of one length, with the same bytes in every header walked, are scanned alike, whatever else they hold
-  pub scan-depends : (rows : List ImageRow) (words : ℕ) → EachWalked (SameHeader area area′) area c s e rows startOf
-      → ScansAgree area area′ c s e rows words
-  unfolding scanOf judged indexOf
-  scan-depends rows words w =
-      record {
-        outcome = ap (judged s e words) (images-depend rows startOf w);
-        index = λ l. by-outcome l (images area c s e rows startOf) refl;
-      }
-    where
-      by-outcome : (l : List ℕ) (o : Outcome Found) → images area c s e rows startOf ≡ o
-          → indexOf (rowsAll area c s e rows penOf) (scanOf area c s e rows words) l
-          ≡ indexOf (rowsAll area′ c s e rows penOf) (scanOf area′ c s e rows words) l
-      by-outcome l (refused m) q =
-          let q′ : images area′ c s e rows startOf ≡ refused m = sym (images-depend rows startOf w) ∙ q in
-          rw (q, q′) refl
-      by-outcome l (done (d, hs)) q =
-          rw (images-depend rows startOf w, rows-depend rows startOf d hs [] w q) refl
+pub scan-depends : ScanDepends
+unfolding scanOf judged indexOf
+scan-depends area area′ c s e long rows words w =
+    record {
+      outcome = ap (judged s e words) same;
+      index = λ l. by-outcome l (images area c s e rows startOf) refl;
+    }
+  where
+    same : images area c s e rows startOf ≡ images area′ c s e rows startOf
+    same = images-depend area area′ c s e long rows startOf w
 
-  -- so two calls that are allowed on them answer the same, and leave the same index
-  pub calls-agree : (count : ℕ) (rows : List ImageRow) (index index₁ index₂ : List ℕ) (r₁ r₂ : Scanned)
-      → EachWalked (SameHeader area area′) area c s e (take count rows) startOf
-      → ScanDid area c s e count rows index index₁ r₁ → ScanDid area′ c s e count rows index index₂ r₂ → (r₁ ≡ r₂) × (index₁ ≡ index₂)
-  calls-agree count rows index index₁ index₂ r₁ r₂ w did₁ did₂ =
-      let a = scan-depends (take count rows) (length index) w in
-      (did₁ .answer ∙ ap scannedOf (a .outcome) ∙ sym (did₂ .answer), did₁ .words ∙ a .index index ∙ sym (did₂ .words))
+    by-outcome : (l : List ℕ) (o : Outcome Found) → images area c s e rows startOf ≡ o
+        → indexOf (rowsAll area c s e rows penOf) (scanOf area c s e rows words) l
+        ≡ indexOf (rowsAll area′ c s e rows penOf) (scanOf area′ c s e rows words) l
+    by-outcome l (refused m) q =
+        let q′ : images area′ c s e rows startOf ≡ refused m = sym same ∙ q in
+        rw (q, q′) refl
+    by-outcome l (done (d, hs)) q = rw (same, rows-depend area area′ c s e long rows startOf d hs [] w q) refl
+
+-- so two calls that are allowed on them answer the same, and leave the same index
+pub calls-agree : (area area′ : List ℕ) (c s e : ℕ) → length area ≡ length area′ → (count : ℕ) (rows : List ImageRow)
+    (index index₁ index₂ : List ℕ) (r₁ r₂ : Scanned) → EachWalked (SameHeader area area′) area c s e (take count rows) startOf
+    → ScanDid area c s e count rows index index₁ r₁ → ScanDid area′ c s e count rows index index₂ r₂ → (r₁ ≡ r₂) × (index₁ ≡ index₂)
+calls-agree area area′ c s e long count rows index index₁ index₂ r₁ r₂ w did₁ did₂ =
+    let a = scan-depends area area′ c s e long (take count rows) (length index) w in
+    (did₁ .answer ∙ ap scannedOf (a .outcome) ∙ sym (did₂ .answer), did₁ .words ∙ a .index index ∙ sym (did₂ .words))
 
 -- ---- bytes that are not in a header
 
@@ -190,10 +184,7 @@ each-everywhere P all area c s e (r ∷ rs) w =
     (openedOf w (r .size)))
     (λ d m. each-everywhere P all area c s e rs d)
 
--- any bytes written over the area outside every header walked, as over payloads and padding, change neither answer nor rows
-pub payload-unread : (area : List ℕ) (c s e : ℕ) (rows : List ImageRow) (words at : ℕ) (xs : List ℕ)
-    → EachWalked (λ p. (p + 12 ≤ at) ⊎ (at + length xs ≤ p)) area c s e rows startOf
-    → ScansAgree area (splice at xs area) c s e rows words
+pub payload-unread : PayloadUnread
 payload-unread area c s e rows words at xs w =
     scan-depends area (splice at xs area) c s e (sym (splice-length at xs area)) rows words
     (each-map (λ p. (p + 12 ≤ at) ⊎ (at + length xs ≤ p)) (SameHeader area (splice at xs area)) spared area c s e rows startOf w)

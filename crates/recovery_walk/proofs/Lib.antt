@@ -1,6 +1,6 @@
 pub mod Images
 pub mod Rows
-pub mod RowIds
+pub mod RowsIds
 pub mod Headers
 mod Bounds
 mod ImagesTurn

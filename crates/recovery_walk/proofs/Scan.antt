@@ -17,7 +17,7 @@ use Rattle.recovery_walk.specs.Images.{Found, walked, images}
 use Rattle.recovery_walk.specs.Rows.{rowsAll, penOf}
 use Rattle.recovery_walk.specs.Scan.{liveCount, judged, scanOf, scannedOf, indexOf, RangePre, ScanDid}
 use Rattle.recovery_walk.proofs.Images.{images-number}
-use Rattle.recovery_walk.proofs.RowIds.{scan-rows}
+use Rattle.recovery_walk.proofs.RowsIds.{scan-rows}
 
 module _ (area : List ℕ) (c s e count : ℕ) (rows : List ImageRow) (index : List ℕ) where
   abbrev found : Outcome Found

@@ -2,3 +2,4 @@ pub mod Images
 pub mod Rows
 pub mod Scan
 pub mod Headers
+pub mod Promised

@@ -1,7 +1,7 @@
 -- Refusal 2 taken apart: what each of its tests says, and the ways of the code through them.
 -- Assumes nothing.
 use mathlib.Core.Path.{_≡_, refl, sym, ap, _∙_}
-use mathlib.Core.List.{List, [], _∷_}
+use mathlib.Core.List.{List, _∷_}
 use mathlib.Core.Bool.{Bool, true, false, _&&_}
 use Prim.Native.Nat.{ℕ, _-_, _*_, _%_, _≤_, _<_}
 use native.Mathlib.Nat.{mul-le-mul}
@@ -14,29 +14,17 @@ use Rattle.lists.specs.Choice.{pick}
 use Rattle.lists.proofs.Cases.{by-test}
 use Rattle.segment.specs.declared.Segment.{Segment}
 use Rattle.seglog.specs.declared.Log.{Log}
-use Rattle.seglog.specs.Log.{
-  View,
-  logOf,
-  viewOf,
-  headOf,
-  sizesOf,
-  segOf,
-  nextOf,
-  chainOf,
-  apartOf,
-  endsOf,
-  shapedOf,
-  zerosOf,
-  plainOf,
-  fitsOf,
-  fittingOf,
-}
-use Rattle.segment.specs.Segment.{noSegment}
+use Rattle.seglog.specs.View.{View, logOf, viewOf, headOf, zerosOf, plainOf}
+use Rattle.seglog.specs.Chain.{segOf, goesOn, chainOf, endsOf, slotsApart}
+use Rattle.seglog.specs.Fit.{sizesOf, shapedOf, fitsOf, fittingOf}
+use Rattle.segment.specs.Segment.{noSegment, slotNumber}
 use Rattle.seglog.specs.New.{roomyOf}
 use Rattle.seglog.specs.Shape.{SizesObey}
 use Rattle.lists.proofs.Bools.{both-ways, and-both, both-and, not-so, same-test}
+use Rattle.lists.specs.Each.{all, linked}
+use Rattle.lists.proofs.Each.{all-every}
+use Rattle.lists.proofs.Distinct.{Below}
 use Rattle.seglog.proofs.View.{plain-log, view-log, listed-length, listed-at, listed-head}
-use Rattle.seglog.proofs.Slots.{Below}
 
 -- ---- K, C and M
 
@@ -135,28 +123,11 @@ is-seg k c g s =
       le-leb (g .min) (g .max) (s .order),
     )
 
--- a chain of segments, taken apart at the first
-pub record ChainGood (k c : ℕ) (g : Segment) (gs : List Segment) : Type 0 where
-  pub good : SegmentGood k c g
-  pub next : nextOf g gs ≡ true
-  pub rest : chainOf k c gs ≡ true
-
-pub chain-is : (k c : ℕ) (g : Segment) (gs : List Segment) → chainOf k c (g ∷ gs) ≡ true → ChainGood k c g gs
-unfolding chainOf
-chain-is k c g gs h =
-    let a = and-both (segOf k c g && nextOf g gs) (chainOf k c gs) h in
-    let b = and-both (segOf k c g) (nextOf g gs) (a .0) in
-    record { good = seg-is k c g (b .0); next = b .1; rest = a .1 }
-
--- and put together
-pub is-chain : (k c : ℕ) (g : Segment) (gs : List Segment) → ChainGood k c g gs → chainOf k c (g ∷ gs) ≡ true
-unfolding chainOf
-is-chain k c g gs s = simp (is-seg k c g (s .good), s .next, s .rest)
-
 -- the slots of a chain are below K
-pub chain-below : (k c : ℕ) (gs : List Segment) → chainOf k c gs ≡ true → Below k gs
-chain-below k c [] h = tt
-chain-below k c (g ∷ gs) h = let t = chain-is k c g gs h in (t .good .slot, chain-below k c gs (t .rest))
+pub chain-below : (k c : ℕ) (gs : List Segment) → chainOf k c gs ≡ true → Below slotNumber k gs
+unfolding chainOf
+chain-below k c gs h =
+    all-every (segOf k c) (λ g. g .slot < k) (λ g q. seg-is k c g q .slot) gs (and-both (all (segOf k c) gs) (linked goesOn gs) h .0)
 
 -- ---- the whole test
 
@@ -167,7 +138,7 @@ pub record Fitting (l : Log) (n : ℕ) : Type 0 where
   pub area : n ≡ l .k * l .c
   pub zeros : zerosOf (drop (l .count) (l .segs)) ≡ true
   pub chain : chainOf (l .k) (l .c) (take (l .count) (l .segs)) ≡ true
-  pub apart : apartOf (take (l .count) (l .segs)) ≡ true
+  pub apart : slotsApart (take (l .count) (l .segs)) ≡ true
   pub ends : endsOf (l .start) (l .end) (take (l .count) (l .segs)) ≡ true
 
 -- the unused entries, and then the listed segments
@@ -186,9 +157,9 @@ module _ (l : Log) (n : ℕ) (long : length (l .segs) ≡ 64) where
       let a = and-both (plainOf l) (shapedOf (viewOf l) && eqb n (l .k * l .c)) h in
       let p = and-both (leb (l .count) 64) (zerosOf (drop (l .count) (l .segs))) (a .0) in
       let b = and-both (shapedOf (viewOf l)) (eqb n (l .k * l .c)) (a .1) in
-      let c = and-both (sizesOf (l .k) (l .c) (l .m) && leb (length gs) (l .k) && chainOf (l .k) (l .c) gs && apartOf gs)
+      let c = and-both (sizesOf (l .k) (l .c) (l .m) && leb (length gs) (l .k) && chainOf (l .k) (l .c) gs && slotsApart gs)
       (endsOf (l .start) (l .end) gs) (b .0) in
-      let d = and-both (sizesOf (l .k) (l .c) (l .m) && leb (length gs) (l .k) && chainOf (l .k) (l .c) gs) (apartOf gs) (c .0) in
+      let d = and-both (sizesOf (l .k) (l .c) (l .m) && leb (length gs) (l .k) && chainOf (l .k) (l .c) gs) (slotsApart gs) (c .0) in
       let e = and-both (sizesOf (l .k) (l .c) (l .m) && leb (length gs) (l .k)) (chainOf (l .k) (l .c) gs) (d .0) in
       let f = and-both (sizesOf (l .k) (l .c) (l .m)) (leb (length gs) (l .k)) (e .0) in
       record {
@@ -240,8 +211,8 @@ module _ (l : Log) (n : ℕ) (long : length (l .segs) ≡ 64) where
   fit-dirty h = no-fit (λ f. both-ways _ (f .zeros) (sym h))
 
   -- segments that do not go on from each other, or share a slot
-  pub fit-listed : false ≡ chainOf (l .k) (l .c) gs && apartOf gs → false ≡ fittingOf l n
-  fit-listed h = no-fit (λ f. both-ways _ (both-and (chainOf (l .k) (l .c) gs) (apartOf gs) (f .chain) (f .apart)) (sym h))
+  pub fit-listed : false ≡ chainOf (l .k) (l .c) gs && slotsApart gs → false ≡ fittingOf l n
+  fit-listed h = no-fit (λ f. both-ways _ (both-and (chainOf (l .k) (l .c) gs) (slotsApart gs) (f .chain) (f .apart)) (sym h))
 
 -- what the numbers of a log tell
 pub record Sized (l : Log) (n : ℕ) : Type 0 where
@@ -263,11 +234,11 @@ sized-count l n s = omega (arith, s .few, s .sizes .few-slots)
 
 -- the last test decides
 pub fit-ends : (l : Log) (n : ℕ) (b : Bool) → Sized l n → zerosOf (drop (l .count) (l .segs)) ≡ true
-    → true ≡ chainOf (l .k) (l .c) (take (l .count) (l .segs)) && apartOf (take (l .count) (l .segs))
+    → true ≡ chainOf (l .k) (l .c) (take (l .count) (l .segs)) && slotsApart (take (l .count) (l .segs))
     → b ≡ endsOf (l .start) (l .end) (take (l .count) (l .segs)) → b ≡ fittingOf l n
 fit-ends l n b s zeros listed e =
     let gs : List Segment = take (l .count) (l .segs) in
-    let both = and-both (chainOf (l .k) (l .c) gs) (apartOf gs) (sym listed) in
+    let both = and-both (chainOf (l .k) (l .c) gs) (slotsApart gs) (sym listed) in
     same-test b (fittingOf l n)
     (λ q.
     is-fitting l n (s .long)
@@ -286,7 +257,7 @@ fit-ends l n b s zeros listed e =
 
 module _ (v : View) (sizes : SizesObey (v .k) (v .c) (v .m)) (few : length (v .segs) ≤ v .k) where
   -- a view that passes the tests is well shaped
-  pub view-shaped : chainOf (v .k) (v .c) (v .segs) ≡ true → apartOf (v .segs) ≡ true → endsOf (v .start) (v .end) (v .segs) ≡ true
+  pub view-shaped : chainOf (v .k) (v .c) (v .segs) ≡ true → slotsApart (v .segs) ≡ true → endsOf (v .start) (v .end) (v .segs) ≡ true
       → shapedOf v ≡ true
   unfolding shapedOf
   view-shaped chain apart ends =

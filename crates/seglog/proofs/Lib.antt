@@ -1,8 +1,7 @@
 pub mod Bounds
 pub mod View
-pub mod Slots
 pub mod Fit
-pub mod Rows
+pub mod FitTurns
 pub mod New
 pub mod Chain
 pub mod Shape

@@ -3,8 +3,12 @@ use mathlib.Core.Path.{_≡_, refl}
 use mathlib.Core.Bool.{true, false}
 use Prim.Native.Nat.{ℕ}
 use native.Mathlib.Omega.{arith}
+use Rattle.lists.specs.Each.{all, linked}
+use Rattle.lists.specs.Distinct.{distinct}
 use Rattle.seglog.specs.declared.Log.{Log}
-use Rattle.seglog.specs.Log.{emptyOf, logOf, zeroLog, zerosOf, chainOf, apartOf, endsOf, fittingOf}
+use Rattle.seglog.specs.View.{emptyOf, logOf, zeroLog, zerosOf}
+use Rattle.seglog.specs.Chain.{chainOf, endsOf}
+use Rattle.seglog.specs.Fit.{fittingOf}
 use Rattle.seglog.specs.New.{roomyOf, refusedLog, accepted, newOf}
 use Rattle.seglog.proofs.Fit.{roomy-is, is-fitting}
 
@@ -21,7 +25,7 @@ module _ (k c m n : ℕ) where
 
   -- a new log is well shaped and fits its area
   pub new-shaped : roomyOf k c m n ≡ true → fittingOf (newOf k c m n .log) n ≡ true
-  unfolding newOf zerosOf chainOf apartOf endsOf
+  unfolding newOf zerosOf chainOf all linked distinct endsOf
   new-shaped h =
       let t = roomy-is k c m n h in
       rw (h) (is-fitting (logOf (emptyOf k c m)) n refl

@@ -1,5 +1,4 @@
--- The test of refusal 2 decides document 01's list: a log passes exactly where it is well shaped and the area has K x C bytes. And what
--- cutting a listed segment does then.
+-- The test of refusal 2 decides document 01's list: a log passes exactly where it is well shaped and the area has K x C bytes.
 -- `length (l .segs) ≡ 64` is the array's type. Assumes nothing.
 use mathlib.Core.Path.{_≡_, sym, ap, _∙_}
 use mathlib.Core.List.{List}
@@ -12,15 +11,16 @@ use lib.Seq.{getD-drop}
 use lib.Dec.{eqb}
 use borrow.Author.Tests.{eqb-true, eqb-false}
 use Rattle.lists.proofs.Cases.{by-test}
+use Rattle.lists.proofs.Distinct.{distinct-at, at-distinct}
 use Rattle.segment.specs.declared.Segment.{Segment}
 use Rattle.seglog.specs.declared.Log.{Log}
-use Rattle.seglog.specs.Log.{headOf, chainOf, apartOf, endsOf, fittingOf}
-use Rattle.segment.specs.Segment.{noSegment, paddedTo}
-use Rattle.segment.specs.Cut.{truncatedArea}
-use Rattle.segment.proofs.Cut.{slot-inside, truncated-padded}
+use Rattle.seglog.specs.View.{headOf}
+use Rattle.seglog.specs.Chain.{chainOf, endsOf, slotsApart}
+use Rattle.seglog.specs.Fit.{fittingOf}
+use Rattle.segment.specs.Segment.{noSegment, slotNumber}
 use Rattle.seglog.specs.Shape.{entry, WellShaped}
+use Rattle.seglog.specs.Promised.{ShapedSound, ShapedComplete}
 use Rattle.seglog.proofs.View.{listed-length, listed-at, listed-head}
-use Rattle.seglog.proofs.Slots.{apart-at, at-apart}
 use Rattle.seglog.proofs.Fit.{SegmentGood, Fitting, fitting-is, is-fitting}
 use Rattle.seglog.proofs.Chain.{
   Follows,
@@ -56,13 +56,6 @@ module _ (l : Log) (long : length (l .segs) ≡ 64) where
     good : (i : ℕ) → i < l .count → SegmentGood (l .k) (l .c) (entry l i)
     good i h = rw (at i h) at (chain-at (l .k) (l .c) gs i (f .chain) (rw listed h))
 
-    -- a listed segment, cut at x: its missing padding is written, and no other byte changes
-    pub listed-truncated : (area : List ℕ) (i x : ℕ) → length area ≡ n → i < l .count → x ≤ l .c
-        → truncatedArea area (l .c) (entry l i .slot) (entry l i .size) x ≡ paddedTo (l .c) area (entry l i) x
-    listed-truncated area i x e h low =
-        truncated-padded area (l .c) x (entry l i)
-        (slot-inside (l .k) (l .c) (entry l i .slot) (length area) (good i h .slot) (e ∙ f .area)) low
-
     next : (i : ℕ) → i + 1 < l .count → Follows (entry l i) (entry l (i + 1))
     next i h =
         let up : suc i ≡ i + 1 = sym (add-one i) in
@@ -77,9 +70,8 @@ module _ (l : Log) (long : length (l .segs) ≡ 64) where
     last : 0 < l .count → headOf gs ≡ entry l (l .count - 1)
     last h = listed-head (l .count) (l .segs) long few h
 
-    -- a log that passes is well shaped
-    pub shaped-sound : WellShaped l
-    shaped-sound =
+    sound : WellShaped l
+    sound =
         record {
           sizes-obey = f .sizes;
           at-most-k = f .few;
@@ -87,7 +79,7 @@ module _ (l : Log) (long : length (l .segs) ≡ 64) where
           ids-rise = λ i h. next i h .id;
           slots-below = λ i h. good i h .slot;
           slots-distinct = λ i j h g e.
-              apart-at gs i j (f .apart) h (omega (arith, listed))
+              distinct-at slotNumber noSegment gs i j (f .apart) h (omega (arith, listed))
               (ap (λ (x : Segment). x .slot) (at i (omega arith)) ∙ e ∙ sym (ap (λ (x : Segment). x .slot) (at j g)));
           sizes-some = λ i h. good i h .some-size;
           sizes-fit = λ i h. good i h .size;
@@ -105,10 +97,6 @@ module _ (l : Log) (long : length (l .segs) ≡ 64) where
               ap (λ (j : ℕ). entry l j) (sym back) ∙ sym (getD-drop (l .count) (l .segs) (i - l .count) noSegment)
               ∙ zeros-at (drop (l .count) (l .segs)) (i - l .count) (f .zeros) (omega (arith, length-drop (l .count) (l .segs)));
         }
-
-    -- and its area has K x C bytes
-    pub shaped-area : n ≡ l .k * l .c
-    shaped-area = f .area
 
   module _ (s : WellShaped l) where
     few′ : l .count ≤ 64
@@ -139,9 +127,9 @@ module _ (l : Log) (long : length (l .segs) ≡ 64) where
         let up : suc i ≡ i + 1 = sym (add-one i) in
         rw (at′ i (omega arith), at′ (suc i) h, up) (record { id = s .ids-rise i h′; min = s .next-min i h′ }))
 
-    apart′ : apartOf gs ≡ true
+    apart′ : slotsApart gs ≡ true
     apart′ =
-        at-apart gs
+        at-distinct slotNumber noSegment gs
         (λ i j h g e.
         s .slots-distinct i j h (omega (arith, listed′))
         (sym (ap (λ (x : Segment). x .slot) (at′ i (omega arith))) ∙ e ∙ ap (λ (x : Segment). x .slot) (at′ j g)))
@@ -164,9 +152,8 @@ module _ (l : Log) (long : length (l .segs) ≡ 64) where
           newest = rw last (s .last-max some);
         }))
 
-    -- a well-shaped log with an area of K x C bytes passes
-    pub shaped-complete : (n : ℕ) → n ≡ l .k * l .c → fittingOf l n ≡ true
-    shaped-complete n e =
+    complete : (n : ℕ) → n ≡ l .k * l .c → fittingOf l n ≡ true
+    complete n e =
         is-fitting l n long
         (record {
           sizes = s .sizes-obey;
@@ -180,3 +167,11 @@ module _ (l : Log) (long : length (l .segs) ≡ 64) where
           apart = apart′;
           ends = ends′;
         })
+
+-- a log that passes is well shaped, and its area has K x C bytes
+pub shaped-sound : ShapedSound
+shaped-sound l n long fits = (sound l long n fits, f l long n fits .area)
+
+-- a well-shaped log with an area of K x C bytes passes
+pub shaped-complete : ShapedComplete
+shaped-complete l n long s e = complete l long s n e

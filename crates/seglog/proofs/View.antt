@@ -11,7 +11,7 @@ use lib.Dec.{leb, eqb}
 use borrow.Author.Tests.{le-leb, leb-true, eqb-true}
 use Rattle.segment.specs.declared.Segment.{Segment}
 use Rattle.seglog.specs.declared.Log.{Log}
-use Rattle.seglog.specs.Log.{View, logOf, viewOf, headOf, frontOf, zeroOf, zerosOf, plainOf}
+use Rattle.seglog.specs.View.{View, logOf, viewOf, headOf, frontOf, zeroOf, zerosOf, plainOf}
 use Rattle.segment.specs.Segment.{noSegment}
 use Rattle.lists.proofs.Bools.{and-both}
 

@@ -7,7 +7,8 @@ use Rattle.lists.specs.Choice.{_⇒_, first}
 use Rattle.seglog.specs.declared.Log.{Log}
 use Rattle.seglog.specs.declared.Logged.{Logged}
 use Rattle.seglog.specs.declared.LiveRange.{LiveRange}
-use Rattle.seglog.specs.Log.{sizesOf, emptyOf, logOf, zeroLog}
+use Rattle.seglog.specs.View.{emptyOf, logOf, zeroLog}
+use Rattle.seglog.specs.Fit.{sizesOf}
 
 -- not refusal 1: K, C, M and the area's length n obey the rules
 unfoldable pub roomyOf : (k c m n : ℕ) → Bool

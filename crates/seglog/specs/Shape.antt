@@ -1,5 +1,5 @@
 -- Document 01's list of what a well-shaped log is, a named field for each of its rules. proofs/Shape.antt shows that the tests of
--- Log.antt decide it. Assumes nothing.
+-- Fit.antt decide it. Assumes nothing.
 use mathlib.Core.Path.{_≡_}
 use Prim.Native.Nat.{ℕ, _+_, _-_, _%_, _≤_, _<_}
 use lib.ListN.{getD}

@@ -6,7 +6,9 @@ ghost use Prim.Native.Nat.{_+_, _-_, _%_};
 ghost use lib.ListN.{length};
 ghost use lib.Dec.{eqb, leb};
 ghost use Rattle.lists.specs.Choice.{pick};
-ghost use Rattle.seglog.specs.Log.{sizesOf, segOf, zeroOf, fittingOf, emptyOf, logOf};
+ghost use Rattle.seglog.specs.View.{zeroOf, emptyOf, logOf};
+ghost use Rattle.seglog.specs.Chain.{segOf, goesOn};
+ghost use Rattle.seglog.specs.Fit.{sizesOf, fittingOf};
 ghost use Rattle.seglog.specs.New.{roomyOf, newOf, rangeOf};
 use lists::at_most;
 use lists::below;
@@ -91,7 +93,7 @@ fn segment_good(k: u64, c: u64, g: Segment) -> bool
 
 // Whether the segment h goes on from g.
 fn follows(g: Segment, h: Segment) -> bool
-    ensures { λ r. ⌜ r ≡ (eqb (h .id) (g .id + 1) && eqb (h .min) (g .max + 1)) ⌝ }
+    ensures { λ r. ⌜ r ≡ goesOn g h ⌝ }
 {
     let id = next_to(g.id as u64, h.id as u64);
     let min = next_to(g.max, h.min);
@@ -118,7 +120,7 @@ fn numbers_good(k: u64, c: u64, m: u64, count: usize, bytes: usize) -> bool
 
 // What is asked of a listed segment g: good by itself, and the one listed after it, if any, goes on from it.
 fn listed_good(k: u64, c: u64, g: Segment, last: bool, later: Segment) -> bool
-    ensures { λ r. ⌜ r ≡ (segOf k c g && (last || (eqb (later .id) (g .id + 1) && eqb (later .min) (g .max + 1)))) ⌝ }
+    ensures { λ r. ⌜ r ≡ (segOf k c g && (last || goesOn g later)) ⌝ }
 {
     let good = segment_good(k, c, g);
     good & (last | follows(g, later))

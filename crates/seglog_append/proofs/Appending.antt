@@ -19,13 +19,15 @@ use Rattle.segment.proofs.Cut.{slot-inside}
 use Rattle.segment_rw.specs.Writer.{fitsSlot, sizeAfter, Wrote}
 use Rattle.segment_rw.proofs.Writer.{fits-yes, record-in, area-is}
 use Rattle.seglog.specs.declared.Log.{Log}
-use Rattle.seglog.specs.Log.{View, logOf, viewOf, fittingOf}
+use Rattle.seglog.specs.View.{View, logOf, viewOf}
+use Rattle.seglog.specs.Fit.{fittingOf}
 use Rattle.seglog.proofs.View.{entriesOf, listed-length}
 use Rattle.seglog.proofs.Fit.{fitting-is}
 use Rattle.seglog_append.specs.declared.Place.{Place}
 use Rattle.seglog_append.specs.Deciding.{targetOf, beforeOf, placeOf, decideLog}
 use Rattle.seglog_append.specs.Appending.{grownOf, startAfter, withRecord, recordInto, Left, leftOf, appendOf, appendLog}
 use Rattle.seglog_append.specs.Appending.{refusedAppend, appendAnswer, appendArea, advancedBy, advancedOf, grownAnswer, GrownPre}
+use Rattle.seglog_append.specs.Promised.{AppendAdvances}
 use Rattle.seglog_append.proofs.Deciding.{Allowed, Accepted, few-listed, spot, view-outcomes, decide-outcomes, decided}
 
 -- ---- the outcome
@@ -118,7 +120,7 @@ module _ (l : Log) (bytes n : ℕ) (long : length (l .segs) ≡ 64) where
       omega (arith, ap (λ (x : Place). x .target .size) (k .1), ap (λ (x : Place). x .room) (k .1))
 
 -- an append answers what was foretold
-pub append-advances : (l : Log) (area p : List ℕ) → appendAnswer l (appendLog l area p) ≡ advancedOf l (length area) (length p)
+pub append-advances : AppendAdvances
 unfolding appendLog
 append-advances l area p = go (decideLog l (length area) (length p))
   where

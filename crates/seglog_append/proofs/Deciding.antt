@@ -13,18 +13,22 @@ use Rattle.lists.specs.Outcome.{Outcome, refused, done}
 use Rattle.lists.proofs.Bools.{clash, and-both, both-and}
 use Rattle.lists.proofs.Cases.{by-test, pick-either}
 use Rattle.lists.proofs.Outcome.{refused-is-not-done, done-injective}
+use Rattle.lists.specs.Distinct.{fresh, distinct}
+use Rattle.lists.proofs.Distinct.{pigeons}
 use Rattle.record.specs.Record.{maxPayload, recordRoom}
 use Rattle.segment.specs.declared.Segment.{Segment}
-use Rattle.segment.specs.Segment.{noSegment}
+use Rattle.segment.specs.Segment.{noSegment, slotNumber}
 use Rattle.seglog.specs.declared.Log.{Log}
-use Rattle.seglog.specs.Log.{View, viewOf, headOf, frontOf, freshIn, apartOf, chainOf, zerosOf, plainOf, shapedOf, fittingOf}
+use Rattle.seglog.specs.View.{View, viewOf, headOf, frontOf, zerosOf, plainOf}
+use Rattle.seglog.specs.Chain.{chainOf, slotsApart}
+use Rattle.seglog.specs.Fit.{shapedOf, fittingOf}
 use Rattle.seglog.proofs.View.{log-view, entriesOf, set-head, set-new, ends-with, listed-length, listed-head}
-use Rattle.seglog.proofs.Slots.{pigeons}
 use Rattle.seglog.proofs.Fit.{SegmentGood, Fitting, fitting-is, chain-below}
 use Rattle.seglog.proofs.Chain.{snoc-chain, zeros-at}
 use Rattle.seglog_append.specs.declared.Place.{Place}
 use Rattle.seglog_append.specs.Deciding.{lowestFree, opensOf, nextId, freshOf, targetOf, beforeOf, placeOf, decideOf, decideLog}
-use Rattle.seglog_append.proofs.Free.{free-most, free-good}
+use Rattle.seglog_append.specs.Promised.{AppendRefuses5, AppendRefuses7}
+use Rattle.seglog_append.proofs.DecidingFree.{free-most, free-good}
 
 -- a head is there where no new segment is wanted
 pub opens-no : (a : View) → opensOf a ≡ false → 0 < length (a .segs)
@@ -130,37 +134,44 @@ module _ (l : Log) (bytes n : ℕ) where
   unfolding decideLog decideOf
   append-refuses-4 fits small h = simp (fits, le-ltb maxPayload n small, eq-eqb (l .end) 18446744073709551615 h)
 
-  module _ (k : Past l bytes n) where
-    -- the tests that are passed
-    passed : decideLog l bytes n
-        ≡ pick (opensOf a && eqb (nextId gs) 0) (refused 5)
-        (pick (opensOf a && eqb (lowestFree a) (l .k)) (refused 6)
-        (pick (ltb (l .c - targetOf a .size) (recordRoom n)) (refused 7) (done (placeOf a n))))
-    unfolding decideLog decideOf
-    passed = simp (k .fits, le-ltb maxPayload n (k .small), ne-eqb (l .end) 18446744073709551615 (k .more))
+  -- behind 2, 3 and 4
+  passed : fittingOf l bytes ≡ true → n ≤ maxPayload → (l .end ≡ 18446744073709551615 → ⊥) → decideLog l bytes n
+      ≡ pick (opensOf a && eqb (nextId gs) 0) (refused 5)
+      (pick (opensOf a && eqb (lowestFree a) (l .k)) (refused 6)
+      (pick (ltb (l .c - targetOf a .size) (recordRoom n)) (refused 7) (done (placeOf a n))))
+  unfolding decideLog decideOf
+  passed fits small more = simp (fits, le-ltb maxPayload n small, ne-eqb (l .end) 18446744073709551615 more)
 
-    pub append-refuses-5 : opensOf a ≡ true → nextId gs ≡ 0 → decideLog l bytes n ≡ refused 5
-    append-refuses-5 o h = passed ∙ simp (o, eq-eqb (nextId gs) 0 h)
+pub append-refuses-5 : AppendRefuses5
+append-refuses-5 l bytes n fits small more o h = passed l bytes n fits small more ∙ simp (o, eq-eqb (nextId (viewOf l .segs)) 0 h)
 
-    pub append-refuses-6 : opensOf a ≡ true → (nextId gs ≡ 0 → ⊥) → lowestFree a ≡ l .k → decideLog l bytes n ≡ refused 6
-    append-refuses-6 o h q = passed ∙ simp (o, ne-eqb (nextId gs) 0 h, eq-eqb (lowestFree a) (l .k) q)
+pub append-refuses-7 : AppendRefuses7
+append-refuses-7 l bytes n fits small more id-good slot-free h =
+    passed l bytes n fits small more ∙ simp (id-good, slot-free, lt-ltb (l .c - targetOf (viewOf l) .size) (recordRoom n) h)
 
-    module _ (g : Segment) (i : ℕ) (chosen : Chosen l g i) where
-      same-size : g .size ≡ targetOf a .size
-      same-size = ap (λ (x : Segment). x .size) (chosen .target)
+module _ (l : Log) (bytes n : ℕ) (k : Past l bytes n) where
+  pub append-refuses-6 : opensOf (viewOf l) ≡ true → (nextId (viewOf l .segs) ≡ 0 → ⊥) → lowestFree (viewOf l) ≡ l .k
+      → decideLog l bytes n ≡ refused 6
+  append-refuses-6 o h q =
+      passed l bytes n (k .fits) (k .small) (k .more)
+      ∙ simp (o, ne-eqb (nextId (viewOf l .segs)) 0 h, eq-eqb (lowestFree (viewOf l)) (l .k) q)
 
-      pub append-refuses-7 : (room : ℕ) → room ≡ recordRoom n → l .c - g .size < room → decideLog l bytes n ≡ refused 7
-      append-refuses-7 room e h =
-          passed
-          ∙ simp (chosen .id-good, chosen .slot-free, lt-ltb (l .c - targetOf a .size) (recordRoom n) (omega (arith, same-size)))
+  module _ (g : Segment) (i : ℕ) (chosen : Chosen l g i) where
+    same-size : g .size ≡ targetOf (viewOf l) .size
+    same-size = ap (λ (x : Segment). x .size) (chosen .target)
 
-      -- a record that fits has its place
-      pub append-places : (room : ℕ) → room ≡ recordRoom n → room ≤ l .c - g .size
-          → _≡_ {A = Outcome Place} (done (record { target = g; at = i; room = room })) (decideLog l bytes n)
-      append-places room e h =
-          (λ j. done (record { target = chosen .target j; at = chosen .index j; room = e j }))
-          ∙ sym (passed
-          ∙ simp (chosen .id-good, chosen .slot-free, le-ltb (l .c - targetOf a .size) (recordRoom n) (omega (arith, same-size))))
+    -- 7, as the code holds the target
+    pub chosen-refuses-7 : (room : ℕ) → room ≡ recordRoom n → l .c - g .size < room → decideLog l bytes n ≡ refused 7
+    chosen-refuses-7 room e h =
+        append-refuses-7 l bytes n (k .fits) (k .small) (k .more) (chosen .id-good) (chosen .slot-free) (omega (arith, same-size))
+
+    -- a record that fits has its place
+    pub append-places : (room : ℕ) → room ≡ recordRoom n → room ≤ l .c - g .size
+        → _≡_ {A = Outcome Place} (done (record { target = g; at = i; room = room })) (decideLog l bytes n)
+    append-places room e h =
+        (λ j. done (record { target = chosen .target j; at = chosen .index j; room = e j }))
+        ∙ sym (passed l bytes n (k .fits) (k .small) (k .more)
+        ∙ simp (chosen .id-good, chosen .slot-free, le-ltb (l .c - targetOf (viewOf l) .size) (recordRoom n) (omega (arith, same-size))))
 
 -- ---- a log that fits
 
@@ -278,12 +289,12 @@ module _ (l : Log) (bytes n : ℕ) (long : length (l .segs) ≡ 64) (ok : Accept
 
   -- a new segment
   spot-new : opensOf w ≡ true → Spot l
-  unfolding apartOf
+  unfolding distinct
   spot-new o =
       let free : lowestFree w ≡ l .k → ⊥ = ok .allowed .slot-free o in
       let slot : lowestFree w < l .k = omega (arith, free-most hs (l .k) 0) in
-      let fresh : freshIn (lowestFree w) hs ≡ true = free-good hs (l .k) 0 (omega arith) in
-      let pigeon = pigeons (l .k) (freshOf w ∷ hs) (both-and (freshIn (lowestFree w) hs) (apartOf hs) fresh (f .apart))
+      let own : fresh slotNumber (lowestFree w) hs ≡ true = free-good hs (l .k) 0 (omega arith) in
+      let pigeon = pigeons slotNumber (l .k) (freshOf w ∷ hs) (both-and (fresh slotNumber (lowestFree w) hs) (slotsApart hs) own (f .apart))
       (slot, chain-below (l .k) (l .c) hs (f .chain)) in
       let room : length hs < 64 = omega (arith, pigeon, f .sizes .few-slots) in
       record {

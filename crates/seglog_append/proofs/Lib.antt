@@ -1,5 +1,5 @@
-pub mod Free
+pub mod DecidingFree
 pub mod Deciding
 pub mod Appending
-pub mod AppendShape
+pub mod AppendingShape
 pub mod Unique

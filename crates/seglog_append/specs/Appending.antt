@@ -12,7 +12,7 @@ use Rattle.record.specs.Record.{recordRoom, recordBytes}
 use Rattle.segment.specs.declared.Segment.{Segment}
 use Rattle.segment.specs.Segment.{endedAt}
 use Rattle.seglog.specs.declared.Log.{Log}
-use Rattle.seglog.specs.Log.{View, viewOf, logOf}
+use Rattle.seglog.specs.View.{View, viewOf, logOf}
 use Rattle.seglog_append.specs.declared.Appended.{Appended}
 use Rattle.seglog_append.specs.declared.Place.{Place}
 use Rattle.seglog_append.specs.Deciding.{targetOf, beforeOf, decideOf, decideLog}

@@ -1,5 +1,5 @@
 -- Where the next record of a log goes, or refusals 2 to 7 in order: from the log, the area's length and the payload's, and no byte of
--- either. Laws: proofs/Deciding.antt, proofs/Free.antt. Assumes nothing.
+-- either. Laws: proofs/Deciding.antt, proofs/DecidingFree.antt. Assumes nothing.
 use mathlib.Core.List.{List, [], _∷_}
 use mathlib.Core.Bool.{Bool, true, _&&_, not}
 use Prim.Native.Nat.{ℕ, zero, suc, _+_, _-_, _%_, _^_}
@@ -7,10 +7,13 @@ use lib.ListN.{length}
 use lib.Dec.{ltb, leb, eqb}
 use Rattle.lists.specs.Choice.{pick, _⇒_, first}
 use Rattle.lists.specs.Outcome.{Outcome, refused, done}
+use Rattle.lists.specs.Distinct.{fresh}
+use Rattle.segment.specs.Segment.{slotNumber}
 use Rattle.record.specs.Record.{maxPayload, recordRoom}
 use Rattle.segment.specs.declared.Segment.{Segment}
 use Rattle.seglog.specs.declared.Log.{Log}
-use Rattle.seglog.specs.Log.{View, viewOf, headOf, frontOf, freshIn, fittingOf}
+use Rattle.seglog.specs.View.{View, viewOf, headOf, frontOf}
+use Rattle.seglog.specs.Fit.{fittingOf}
 use Rattle.seglog_append.specs.declared.Place.{Place}
 use Rattle.seglog_append.specs.declared.Decision.{Decision}
 use Rattle.seglog_append.specs.declared.Decision.the-variants.{Refused, Goes}
@@ -18,7 +21,7 @@ use Rattle.seglog_append.specs.declared.Decision.the-variants.{Refused, 
 -- the lowest slot from i on that no listed segment has, looking at n slots; the one behind them where there is none
 unfoldable pub freeFrom : ℕ → ℕ → List Segment → ℕ
 freeFrom zero i gs = i
-freeFrom (suc n) i gs = pick (freshIn i gs) i (freeFrom n (suc i) gs)
+freeFrom (suc n) i gs = pick (fresh slotNumber i gs) i (freeFrom n (suc i) gs)
 
 -- "the lowest slot that no listed segment has"; K where all K slots are listed
 abbrev pub lowestFree : View → ℕ

@@ -7,7 +7,7 @@ ghost use lib.ListN.{length, take};
 ghost use lib.Dec.{eqb, leb};
 ghost use Rattle.lists.specs.Choice.{pick};
 ghost use Rattle.lists.specs.Outcome.{refused, done};
-ghost use Rattle.seglog.specs.Log.{fittingOf};
+ghost use Rattle.seglog.specs.Fit.{fittingOf};
 ghost use Rattle.seglog_append.specs.Deciding.{freeFrom, decideLog, decisionOf};
 ghost use Rattle.seglog_append.specs.Appending.{GrownPre, grownAnswer, advancedOf, appendLog, appendAnswer, appendArea};
 use record::HEADER_SIZE;

@@ -16,7 +16,8 @@ use Rattle.lists.specs.Outcome.{Outcome, refused, kept}
 use Rattle.lists.proofs.Bools.{zero-is-not-one, and-both}
 use Rattle.lists.proofs.Cases.{by-test, pick-either}
 use Rattle.seglog.specs.declared.Log.{Log}
-use Rattle.seglog.specs.Log.{View, viewOf, emptyOf, shapedOf, zerosOf, plainOf, fittingOf}
+use Rattle.seglog.specs.View.{View, viewOf, emptyOf, zerosOf, plainOf}
+use Rattle.seglog.specs.Fit.{shapedOf, fittingOf}
 use Rattle.seglog.specs.New.{accepted}
 use Rattle.seglog.proofs.View.{log-view}
 use Rattle.seglog_prune.specs.declared.Early.{Early}
@@ -24,6 +25,7 @@ use Rattle.seglog_prune.specs.declared.Early.the-variants.{Refused, Empt
 use Rattle.seglog_prune.specs.Decide.{earlyOf}
 use Rattle.seglog_prune.specs.Prune.{Pruned, pruned, outcomeOf, pruneOf, pruneAnswer, pruneArea}
 use Rattle.seglog_prune.specs.Steps.{settledOf}
+use Rattle.seglog_prune.specs.Promised.{EarlyEmpties, EarlyKeeps}
 use Rattle.seglog_prune.proofs.Early.{the-type}
 
 -- ---- a log by its entries
@@ -44,41 +46,38 @@ listed-some l long some z = some (omega (arith, length-take (l .count) (l .segs)
 
 -- ---- the ways through the tests
 
-module _ (a : View) (fits : Bool) (n : ℕ) where
-  -- refusal 2
-  pub early-refuses-2 : fits ≡ false → Refused 2 ≡ earlyOf a fits n
+-- refusal 2
+pub early-refuses-2 : (a : View) (fits : Bool) (n : ℕ) → fits ≡ false → Refused 2 ≡ earlyOf a fits n
+unfolding earlyOf
+early-refuses-2 a fits n f = simp f
+
+-- argument 0
+pub early-empties : EarlyEmpties
+unfolding earlyOf
+early-empties a fits n good z = simp (good, eq-eqb n 0 z)
+
+-- an empty log
+pub early-keeps : EarlyKeeps
+unfolding earlyOf
+early-keeps a fits n good some z = simp (good, ne-eqb n 0 some, eq-eqb (length (a .segs)) 0 z)
+
+module _ (a : View) (fits : Bool) (n : ℕ) (good : fits ≡ true) (some : n ≡ 0 → ⊥) (listed : length (a .segs) ≡ 0 → ⊥) where
+  -- refusal 8
+  pub early-refuses-8 : a .end < n → Refused 8 ≡ earlyOf a fits n
   unfolding earlyOf
-  early-refuses-2 f = simp f
+  early-refuses-8 h = simp (good, ne-eqb n 0 some, ne-eqb (length (a .segs)) 0 listed, lt-ltb (a .end) n h)
 
-  module _ (good : fits ≡ true) where
-    -- argument 0
-    pub early-empties : n ≡ 0 → Empty ≡ earlyOf a fits n
-    unfolding earlyOf
-    early-empties z = simp (good, eq-eqb n 0 z)
+  -- refusal 9
+  pub early-refuses-9 : n ≤ a .end → n < a .start → Refused 9 ≡ earlyOf a fits n
+  unfolding earlyOf
+  early-refuses-9 h g =
+      simp (good, ne-eqb n 0 some, ne-eqb (length (a .segs)) 0 listed, le-ltb (a .end) n h, lt-ltb n (a .start) g)
 
-    module _ (some : n ≡ 0 → ⊥) where
-      -- an empty log
-      pub early-keeps : length (a .segs) ≡ 0 → Same ≡ earlyOf a fits n
-      unfolding earlyOf
-      early-keeps z = simp (good, ne-eqb n 0 some, eq-eqb (length (a .segs)) 0 z)
-
-      module _ (listed : length (a .segs) ≡ 0 → ⊥) where
-        -- refusal 8
-        pub early-refuses-8 : a .end < n → Refused 8 ≡ earlyOf a fits n
-        unfolding earlyOf
-        early-refuses-8 h = simp (good, ne-eqb n 0 some, ne-eqb (length (a .segs)) 0 listed, lt-ltb (a .end) n h)
-
-        -- refusal 9
-        pub early-refuses-9 : n ≤ a .end → n < a .start → Refused 9 ≡ earlyOf a fits n
-        unfolding earlyOf
-        early-refuses-9 h g =
-            simp (good, ne-eqb n 0 some, ne-eqb (length (a .segs)) 0 listed, le-ltb (a .end) n h, lt-ltb n (a .start) g)
-
-        -- none of them
-        pub early-passes : n ≤ a .end → a .start ≤ n → Onward ≡ earlyOf a fits n
-        unfolding earlyOf
-        early-passes h g =
-            simp (good, ne-eqb n 0 some, ne-eqb (length (a .segs)) 0 listed, le-ltb (a .end) n h, le-ltb n (a .start) g)
+  -- none of them
+  pub early-passes : n ≤ a .end → a .start ≤ n → Onward ≡ earlyOf a fits n
+  unfolding earlyOf
+  early-passes h g =
+      simp (good, ne-eqb n 0 some, ne-eqb (length (a .segs)) 0 listed, le-ltb (a .end) n h, le-ltb n (a .start) g)
 
 -- ---- what is known behind them
 

@@ -24,7 +24,7 @@ use lib.Seq.{drop-cons, take-suc, take-all, take-at, getD-drop, paste}
 use lib.Dec.{ltb}
 use borrow.Author.Tests.{lt-ltb, le-ltb}
 use Rattle.lists.specs.Choice.{pick}
-use Rattle.lists.proofs.Writes.{paste-turn}
+use Rattle.lists.proofs.SpliceWrites.{paste-turn}
 use Rattle.segment.specs.declared.Segment.{Segment}
 use Rattle.segment.specs.Segment.{noSegment}
 use Rattle.seglog.proofs.View.{listed-length, listed-at}

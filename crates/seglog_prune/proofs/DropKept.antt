@@ -1,22 +1,24 @@
 -- What the segments that a prune keeps are: neighbours still, in slots of their own, with the live range's ends in the first and the last.
 -- Assumes nothing.
 use mathlib.Core.Path.{_≡_, refl, sym, ap, _∙_}
-use mathlib.Core.Bool.{Bool, true, false, _&&_}
+use mathlib.Core.Bool.{Bool, true, false}
 use mathlib.Core.List.{List, [], _∷_, _++_}
-use Prim.Native.Nat.{ℕ, zero, suc, _+_, _-_, _%_, _≤_, _<_}
+use Prim.Native.Nat.{ℕ, suc, _+_, _-_, _%_, _≤_, _<_}
 use native.Mathlib.Omega.{arith}
 use lib.ListN.{length, getD, take}
-use lib.Dec.{ltb, leb, eqb}
-use borrow.Author.Tests.{leb-true, le-leb, eqb-true, eq-eqb, ltb-true, ltb-false, le-ltb}
+use lib.Dec.{ltb}
+use borrow.Author.Tests.{ltb-true, ltb-false, le-ltb}
 use Rattle.lists.specs.Choice.{pick}
 use Rattle.lists.proofs.Cases.{pick-either}
 use Rattle.segment.specs.declared.Segment.{Segment}
-use Rattle.seglog.specs.Log.{headOf, freshIn, apartOf, nextOf, chainOf, endsOf}
-use Rattle.segment.specs.Segment.{noSegment, endedAt}
-use Rattle.lists.proofs.Bools.{and-both, both-and}
-use Rattle.seglog.proofs.Slots.{fresh-cons, cons-fresh}
-use Rattle.seglog.proofs.Fit.{SegmentGood, chain-is, is-chain}
-use Rattle.seglog.proofs.Chain.{EndsGood}
+use Rattle.seglog.specs.View.{headOf}
+use Rattle.seglog.specs.Chain.{chainOf, slotsApart}
+use Rattle.segment.specs.Segment.{noSegment, endedAt, slotNumber}
+use Rattle.lists.proofs.Bools.{and-both}
+use Rattle.lists.specs.Distinct.{fresh, distinct}
+use Rattle.segment.specs.Chain.{Chain, InSlot}
+use Rattle.segment.proofs.Chain.{chain-first}
+use Rattle.seglog.proofs.Chain.{EndsGood, passes-chain, chain-passes, chain-ends, chain-snoc, snoc-chain}
 use Rattle.seglog_prune.specs.Drop.{dropOld, keepAt, dropNew}
 
 -- the last of two or more is the last of the others
@@ -28,46 +30,95 @@ head-more g h hs =
 
 -- ---- prune oldest
 
+-- what prune oldest leaves of a chain `whole`: a chain whose first segment holds n, with the same last segment
+pub record Old (P : Segment → Type 0) (i b n j c : ℕ) (whole gs : List Segment) : Type 0 where
+  pub i′ : ℕ
+  pub b′ : ℕ
+  pub first : i ≤ i′
+  pub low : b ≤ b′
+  pub chain : Chain P i′ b′ gs j c
+  pub apart : slotsApart gs ≡ true
+  pub some : 0 < length gs
+  pub from : getD gs 0 noSegment .min ≤ n
+  pub to : n ≤ getD gs 0 noSegment .max
+  pub head : headOf gs ≡ headOf whole
+
+pub old-chain : (P : Segment → Type 0) (gs : List Segment) (i b n j c : ℕ) → 0 < length gs → b ≤ n → n < c → Chain P i b gs j c
+    → slotsApart gs ≡ true → Old P i b n j c gs (dropOld n gs)
+unfolding dropOld distinct
+old-chain P [] i b n j c some low high h apart = absurd (omega arith)
+old-chain P (g ∷ []) i b n j c some low high h apart =
+    record {
+      i′ = i;
+      b′ = b;
+      first = omega arith;
+      low = omega arith;
+      chain = h;
+      apart = apart;
+      some = some;
+      from = omega (arith, h .0 .min);
+      to = omega (arith, h .1 .1);
+      head = refl;
+    }
+old-chain P (g ∷ x ∷ gs) i b n j c some low high h apart =
+    pick-either (Old P i b n j c (g ∷ x ∷ gs)) (ltb (g .max) n) (dropOld n (x ∷ gs)) (g ∷ x ∷ gs)
+    (λ q.
+    let t = old-chain P (x ∷ gs) (i + 1) (g .max + 1) n j c (omega arith) (omega (arith, ltb-true (g .max) n q)) high (h .1)
+    (and-both (fresh slotNumber (g .slot) (x ∷ gs)) (slotsApart (x ∷ gs)) apart .1) in
+    record {
+      i′ = t .i′;
+      b′ = t .b′;
+      first = omega (arith, t .first);
+      low = omega (arith, t .low, h .0 .order);
+      chain = t .chain;
+      apart = t .apart;
+      some = t .some;
+      from = t .from;
+      to = t .to;
+      head = t .head ∙ sym (head-more g x gs);
+    })
+    (λ q.
+    record {
+      i′ = i;
+      b′ = b;
+      first = omega arith;
+      low = omega arith;
+      chain = h;
+      apart = apart;
+      some = some;
+      from = omega (arith, h .0 .min);
+      to = ltb-false (g .max) n q;
+      head = refl;
+    })
+
 -- what holds of the segments that prune oldest keeps
 pub record OldKept (k c n e : ℕ) (gs : List Segment) : Type 0 where
   pub some : 0 < length gs
   pub chain : chainOf k c gs ≡ true
-  pub apart : apartOf gs ≡ true
+  pub apart : slotsApart gs ≡ true
   pub ends : EndsGood n e gs
 
-pub old-kept : (k c n s e : ℕ) (gs : List Segment) → 0 < length gs → chainOf k c gs ≡ true → apartOf gs ≡ true → EndsGood s e gs
-    → s ≤ n → n ≤ e
-    → OldKept k c n e (dropOld n gs)
-unfolding dropOld nextOf apartOf
-old-kept k c n s e [] some chain apart ends low high = absurd (omega arith)
-old-kept k c n s e (g ∷ []) some chain apart ends low high =
+pub old-kept : (k c n s e : ℕ) (gs : List Segment) → 0 < length gs → chainOf k c gs ≡ true → slotsApart gs ≡ true → EndsGood s e gs
+    → s ≤ n → n ≤ e → OldKept k c n e (dropOld n gs)
+old-kept k c n s e gs some chain apart ends low high =
+    let P : Segment → Type 0 = InSlot k c in
+    let r = passes-chain k c gs chain in
+    let first = chain-first P gs (r .i) (r .a) (r .j) (r .b) some (r .chain) in
+    let last = chain-ends P gs (r .i) (r .a) (r .j) (r .b) some (r .chain) in
+    let o = old-chain P gs (r .i) (r .a) n (r .j) (r .b) some (omega (arith, ends .from, first)) (omega (arith, last .max, ends .newest))
+    (r .chain) apart in
     record {
-      some = some;
-      chain = chain;
-      apart = apart;
-      ends = record { from = omega (arith, ends .from); to = omega (arith, ends .newest); pages = ends .pages; newest = ends .newest };
+      some = o .some;
+      chain = chain-passes k c (dropOld n gs) (o .i′) (o .b′) (r .j) (r .b) (omega (arith, r .some, o .first))
+          (omega (arith, r .low, o .low)) (o .chain);
+      apart = o .apart;
+      ends = record {
+        from = o .from;
+        to = o .to;
+        pages = ap (λ (x : Segment). x .size % 4096) (o .head) ∙ ends .pages;
+        newest = ap (λ (x : Segment). x .max) (o .head) ∙ ends .newest;
+      };
     }
-old-kept k c n s e (g ∷ h ∷ gs) some chain apart ends low high =
-    pick-either (OldKept k c n e) (ltb (g .max) n) (dropOld n (h ∷ gs)) (g ∷ h ∷ gs)
-    (λ q.
-    let t = chain-is k c g (h ∷ gs) chain in
-    let follows : h .min ≡ g .max + 1 = eqb-true (h .min) (g .max + 1)
-    (and-both (eqb (h .id) (g .id + 1)) (eqb (h .min) (g .max + 1)) (t .next) .1) in
-    old-kept k c n (h .min) e (h ∷ gs) (omega arith) (t .rest) (and-both (freshIn (g .slot) (h ∷ gs)) (apartOf (h ∷ gs)) apart .1)
-    (record {
-      from = omega arith;
-      to = chain-is k c h gs (t .rest) .good .order;
-      pages = ap (λ (x : Segment). x .size % 4096) (sym (head-more g h gs)) ∙ ends .pages;
-      newest = ap (λ (x : Segment). x .max) (sym (head-more g h gs)) ∙ ends .newest;
-    })
-    (omega (arith, ltb-true (g .max) n q)) high)
-    (λ q.
-    record {
-      some = some;
-      chain = chain;
-      apart = apart;
-      ends = record { from = omega (arith, ends .from); to = ltb-false (g .max) n q; pages = ends .pages; newest = ends .newest };
-    })
 
 pub old-fewer : (n : ℕ) (gs : List Segment) → length (dropOld n gs) ≤ length gs
 unfolding dropOld
@@ -77,46 +128,16 @@ old-fewer n (g ∷ h ∷ gs) =
     pick-either (λ (l : List Segment). length l ≤ length (g ∷ h ∷ gs)) (ltb (g .max) n) (dropOld n (h ∷ gs)) (g ∷ h ∷ gs)
     (λ q. omega (arith, old-fewer n (h ∷ gs))) (λ q. omega arith)
 
--- ---- a front of the segments
-
-pub chain-front : (k c i : ℕ) (gs : List Segment) → chainOf k c gs ≡ true → chainOf k c (take i gs) ≡ true
-unfolding chainOf nextOf
-chain-front k c zero gs h = refl
-chain-front k c (suc i) [] h = refl
-chain-front k c (suc i) (g ∷ gs) h =
-    let t = chain-is k c g gs h in
-    is-chain k c g (take i gs) (record { good = t .good; next = next i gs (t .next); rest = chain-front k c i gs (t .rest) })
-  where
-    next : (i : ℕ) (gs : List Segment) → nextOf g gs ≡ true → nextOf g (take i gs) ≡ true
-    next zero gs h = refl
-    next (suc i) [] h = h
-    next (suc i) (x ∷ gs) h = h
-
-pub fresh-front : (slot i : ℕ) (gs : List Segment) → freshIn slot gs ≡ true → freshIn slot (take i gs) ≡ true
-unfolding freshIn
-fresh-front slot zero gs h = refl
-fresh-front slot (suc i) [] h = h
-fresh-front slot (suc i) (g ∷ gs) h =
-    let t = fresh-cons slot g gs h in cons-fresh slot g (take i gs) (record { here = t .here; rest = fresh-front slot i gs (t .rest) })
-
-pub apart-front : (i : ℕ) (gs : List Segment) → apartOf gs ≡ true → apartOf (take i gs) ≡ true
-unfolding apartOf
-apart-front zero gs h = refl
-apart-front (suc i) [] h = h
-apart-front (suc i) (g ∷ gs) h =
-    let t = and-both (freshIn (g .slot) gs) (apartOf gs) h in
-    both-and (freshIn (g .slot) (take i gs)) (apartOf (take i gs)) (fresh-front (g .slot) i gs (t .0)) (apart-front i gs (t .1))
-
 -- ---- the last segment changed
 
 -- a chain whose last segment has another size and max
 pub chain-last : (k c : ℕ) (hs : List Segment) (g : Segment) (n x : ℕ) → chainOf k c (hs ++ (g ∷ [])) ≡ true → 1 ≤ x → x ≤ c → g .min ≤ n
     → chainOf k c (hs ++ (endedAt g n x ∷ [])) ≡ true
-unfolding chainOf nextOf
-chain-last k c [] g n x h low high order =
-    let t = chain-is k c g [] h in
-    is-chain k c (endedAt g n x) []
+chain-last k c hs g n x h low high order =
+    let t = snoc-chain k c hs g h in
+    chain-snoc k c hs (endedAt g n x)
     (record {
+      rest = t .rest;
       good = record {
         some-id = t .good .some-id;
         slot = t .good .slot;
@@ -125,26 +146,8 @@ chain-last k c [] g n x h low high order =
         some-min = t .good .some-min;
         order = order;
       };
-      next = refl;
-      rest = refl;
+      goes = λ some. record { id = t .goes some .id; min = t .goes some .min };
     })
-chain-last k c (h ∷ hs) g n x e low high order =
-    let t = chain-is k c h (hs ++ (g ∷ [])) e in
-    is-chain k c h (hs ++ (endedAt g n x ∷ [])) (record {
-      good = t .good;
-      next = next hs (t .next);
-      rest = chain-last k c hs g n x
-          (t .rest) low high order;
-    })
-  where
-    next : (hs : List Segment) → nextOf h (hs ++ (g ∷ [])) ≡ true → nextOf h (hs ++ (endedAt g n x ∷ [])) ≡ true
-    next [] q = q
-    next (y ∷ hs) q = q
-
--- the last segment of a chain is a good one
-pub last-good : (k c : ℕ) (hs : List Segment) (g : Segment) → chainOf k c (hs ++ (g ∷ [])) ≡ true → SegmentGood k c g
-last-good k c [] g h = chain-is k c g [] h .good
-last-good k c (x ∷ hs) g h = last-good k c hs g (chain-is k c x (hs ++ (g ∷ [])) h .rest)
 
 -- the first segment's range, where the last one is changed
 pub first-from : (hs : List Segment) (g : Segment) (n x : ℕ)

@@ -1,4 +1,3 @@
-mod Bounds
 pub mod Decide
 pub mod Drop
 pub mod DropKept

@@ -22,7 +22,8 @@ use lib.ListN.{
 use lib.Seq.{drop-append-le, take-take, getD-take, take-suc}
 use Rattle.segment.specs.declared.Segment.{Segment}
 use Rattle.seglog.specs.declared.Log.{Log}
-use Rattle.seglog.specs.Log.{logOf, viewOf, headOf, frontOf, plainOf, fittingOf}
+use Rattle.seglog.specs.View.{logOf, viewOf, headOf, frontOf, plainOf}
+use Rattle.seglog.specs.Fit.{fittingOf}
 use Rattle.lists.specs.Outcome.{refused, done}
 use Rattle.segment.specs.Segment.{noSegment}
 use Rattle.seglog.specs.New.{accepted}

@@ -1,6 +1,6 @@
 -- Frames: which bytes a prune leaves as they are. A refusal and prune oldest touch none, prune recent writes missing padding alone.
 -- Assumes nothing.
-use mathlib.Core.Path.{_≡_, refl, sym, ap, _∙_, subst}
+use mathlib.Core.Path.{_≡_, refl, ap, _∙_}
 use mathlib.Core.List.{List}
 use Prim.Native.Nat.{ℕ, _+_, _-_, _*_, _≤_}
 use native.Mathlib.Omega.{arith}
@@ -10,7 +10,8 @@ use Rattle.lists.specs.Splice.{part, splice, slotOf}
 use Rattle.lists.proofs.Splice.{splice-length, splice-before, splice-after, splice-none, splice-slot}
 use Rattle.segment.specs.declared.Segment.{Segment}
 use Rattle.seglog.specs.declared.Log.{Log}
-use Rattle.seglog.specs.Log.{viewOf, fittingOf}
+use Rattle.seglog.specs.View.{viewOf}
+use Rattle.seglog.specs.Fit.{fittingOf}
 use Rattle.segment.specs.Segment.{imageIn, paddedTo}
 use Rattle.seglog_prune.specs.Cut.{findCut}
 use Rattle.seglog_prune.specs.Prune.{
@@ -24,12 +25,12 @@ use Rattle.seglog_prune.specs.Prune.{
   pruneAnswer,
   pruneArea,
 }
+use Rattle.seglog_prune.specs.Promised.{RefusalKeeps, OldestBytes, RecentOther}
 use Rattle.seglog_prune.proofs.Decide.{Inner, prune-ways}
 use Rattle.seglog_prune.proofs.PruneInside.{cutSegment, frontKept, in-range, cut-good}
 
 -- beside a refusal's number stands the log given, and no byte is changed
-pub refusal-keeps : (l : Log) (area : List ℕ) (o : Outcome Pruned) → (pruneAnswer l o .refusal ≡ 0 → ⊥)
-    → (pruneAnswer l o .log ≡ l) × (pruneArea area o ≡ area)
+pub refusal-keeps : RefusalKeeps
 refusal-keeps l area (refused n) h = (refl, refl)
 refusal-keeps l area (done p) h = absurd (h refl)
 
@@ -38,16 +39,16 @@ prune-area : (Q : List ℕ → Type 0) (l : Log) (area : List ℕ) (n : ℕ) (re
     → (Inner (viewOf l) (fittingOf l (length area)) n → Q (pruneArea area rest))
     → Q (pruneArea area (pruneOf (viewOf l) (fittingOf l (length area)) area n rest))
 prune-area Q l area n rest same h =
-    prune-ways (viewOf l) (fittingOf l (length area)) area n rest (λ o. Q (pruneArea area o)) (λ q. same) (λ q. same) (λ q. same) same same h
+    prune-ways (viewOf l) (fittingOf l (length area)) area n rest (λ o. Q (pruneArea area o)) (λ q. same) (λ q. same) (λ q. same) same
+    same h
 
 -- prune oldest touches no byte
-pub oldest-bytes : (l : Log) (area : List ℕ) (n : ℕ) → pruneArea area (oldestLog l area n) ≡ area
+pub oldest-bytes : OldestBytes
 unfolding oldestLog pruneOldestOf
 oldest-bytes l area n = prune-area (λ (x : List ℕ). x ≡ area) l area n _ refl (λ i. refl)
 
 -- prune recent leaves every other slot as it is
-pub recent-other : (l : Log) (area : List ℕ) (n j : ℕ) → length (l .segs) ≡ 64 → (cutSegment l n .slot ≡ j → ⊥)
-    → slotOf (l .c) j (pruneArea area (recentLog l area n)) ≡ slotOf (l .c) j area
+pub recent-other : RecentOther
 unfolding recentLog pruneRecentOf
 recent-other l area n j long apart =
     prune-area (λ (x : List ℕ). slotOf (l .c) j x ≡ slotOf (l .c) j area) l area n _ refl (λ i. any i _ refl)

@@ -11,17 +11,20 @@ use lib.Dec.{lit<}
 use Rattle.page.proofs.Page.{pad-multiple, pad-ge}
 use Rattle.segment.specs.declared.Segment.{Segment}
 use Rattle.seglog.specs.declared.Log.{Log}
-use Rattle.seglog.specs.Log.{viewOf, headOf, frontOf, apartOf, chainOf, fittingOf}
+use Rattle.seglog.specs.View.{viewOf, headOf, frontOf}
+use Rattle.seglog.specs.Chain.{chainOf, slotsApart}
+use Rattle.seglog.specs.Fit.{fittingOf}
 use Rattle.seglog.proofs.View.{listed-length, ends-with}
-use Rattle.seglog.proofs.Fit.{SegmentGood, sizes-room, Fitting, fitting-is}
+use Rattle.seglog.proofs.Fit.{SegmentGood, Fitting, fitting-is}
 use Rattle.lists.specs.Outcome.{done}
+use Rattle.lists.proofs.Distinct.{distinct-front}
 use Rattle.seglog_prune.specs.Drop.{dropNew}
 use Rattle.seglog_prune.specs.Cut.{findCut}
-use Rattle.segment.specs.Segment.{imageIn}
+use Rattle.segment.specs.Segment.{imageIn, slotNumber}
 use Rattle.seglog_prune.proofs.Cut.{Ends, Found, cut-found, cut-within}
 use Rattle.seglog_prune.proofs.Decide.{Inner}
-use Rattle.seglog.proofs.Chain.{EndsGood, ends-are}
-use Rattle.seglog_prune.proofs.DropKept.{chain-front, apart-front, last-good, new-front, some-stays}
+use Rattle.seglog.proofs.Chain.{EndsGood, ends-are, chain-parts, snoc-chain}
+use Rattle.seglog_prune.proofs.DropKept.{new-front, some-stays}
 
 -- the segments that prune recent keeps: the last of them, which is cut, and those in front of it
 abbrev pub keptOf : Log → ℕ → List Segment
@@ -42,7 +45,7 @@ pub record InRange (l : Log) (area : List ℕ) (n : ℕ) : Type 0 where
   pub stays : 0 < length (keptOf l n)
   pub kept-is : frontKept l n ++ (cutSegment l n ∷ []) ≡ take (length (keptOf l n)) (viewOf l .segs)
   pub chain : chainOf (l .k) (l .c) (frontKept l n ++ (cutSegment l n ∷ [])) ≡ true
-  pub apart : apartOf (frontKept l n ++ (cutSegment l n ∷ [])) ≡ true
+  pub apart : slotsApart (frontKept l n ++ (cutSegment l n ∷ [])) ≡ true
   pub good : SegmentGood (l .k) (l .c) (cutSegment l n)
 
 pub in-range : (l : Log) (area : List ℕ) (n : ℕ) → length (l .segs) ≡ 64 → Inner (viewOf l) (fittingOf l (length area)) n → InRange l area n
@@ -56,7 +59,7 @@ in-range l area n long i =
     let many : ℕ = length (keptOf l n) in
     let kept-is : frontKept l n ++ (cutSegment l n ∷ []) ≡ take many gs = sym (ends-with (keptOf l n) stays) ∙ new-front n gs in
     let chain : chainOf (l .k) (l .c) (frontKept l n ++ (cutSegment l n ∷ [])) ≡ true =
-    ap (chainOf (l .k) (l .c)) kept-is ∙ chain-front (l .k) (l .c) many gs (fit .chain) in
+    ap (chainOf (l .k) (l .c)) kept-is ∙ chain-parts (l .k) (l .c) many gs (fit .chain) .0 in
     record {
       fit = fit;
       listed = listed;
@@ -65,8 +68,8 @@ in-range l area n long i =
       stays = stays;
       kept-is = kept-is;
       chain = chain;
-      apart = ap apartOf kept-is ∙ apart-front many gs (fit .apart);
-      good = last-good (l .k) (l .c) (frontKept l n) (cutSegment l n) chain;
+      apart = ap slotsApart kept-is ∙ distinct-front slotNumber many gs (fit .apart);
+      good = snoc-chain (l .k) (l .c) (frontKept l n) (cutSegment l n) chain .good;
     }
 
 module _ (l : Log) (area : List ℕ) (n : ℕ) (r : InRange l area n) where
@@ -76,10 +79,6 @@ module _ (l : Log) (area : List ℕ) (n : ℕ) (r : InRange l area n) where
     where
       below : suc (cutSegment l n .slot) ≤ l .k
       below = omega (arith, r .good .slot)
-
-  -- which has at most 2^37 bytes
-  pub area-small : length area ≤ 137438953472
-  area-small = omega (arith, r .fit .area, sizes-room (l .k) (l .c) (l .m) (r .fit .sizes))
 
   abbrev image : List ℕ
   image = imageIn area (l .c) (cutSegment l n)

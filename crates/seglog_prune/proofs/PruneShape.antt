@@ -1,25 +1,26 @@
 -- Well shaped in, well shaped out: the log of each accepted prune is well shaped and fits the area.
 -- Assumes nothing.
-use mathlib.Core.Path.{_≡_, refl, sym, ap, _∙_, subst}
-use mathlib.Core.Bool.{Bool, true, _&&_}
+use mathlib.Core.Path.{_≡_, refl, ap, _∙_, subst}
+use mathlib.Core.Bool.{Bool, true}
 use mathlib.Core.List.{List, [], _∷_, _++_}
 use Prim.Native.Nat.{ℕ, _+_, _-_, _*_, _%_, _≤_}
 use native.Mathlib.Omega.{arith}
 use lib.ListN.{length, getD, replicate, length-append, length-take}
 use lib.Seq.{getD-take}
-use lib.Dec.{eqb}
-use borrow.Author.Tests.{le-leb, eq-eqb}
 use Rattle.lists.specs.Outcome.{Outcome, refused, done}
 use Rattle.lists.proofs.Splice.{splice-length}
 use Rattle.segment.specs.declared.Segment.{Segment}
 use Rattle.seglog.specs.declared.Log.{Log}
-use Rattle.seglog.specs.Log.{View, logOf, viewOf, emptyOf, headOf, apartOf, chainOf, endsOf, shapedOf, plainOf, fittingOf}
-use Rattle.segment.specs.Segment.{noSegment}
+use Rattle.seglog.specs.View.{View, logOf, viewOf, emptyOf, headOf}
+use Rattle.seglog.specs.Chain.{chainOf, endsOf, slotsApart}
+use Rattle.seglog.specs.Fit.{fittingOf}
+use Rattle.segment.specs.Segment.{noSegment, slotNumber}
 use Rattle.seglog.specs.Shape.{SizesObey}
-use Rattle.lists.proofs.Bools.{both-and}
-use Rattle.seglog.proofs.View.{plain-log, view-log, log-view, head-snoc}
-use Rattle.seglog.proofs.Slots.{apart-snoc, snoc-apart}
-use Rattle.seglog.proofs.Fit.{are-sizes, fitting-is}
+use Rattle.lists.specs.Each.{all, linked}
+use Rattle.lists.specs.Distinct.{distinct}
+use Rattle.lists.proofs.Distinct.{distinct-more, snoc-distinct}
+use Rattle.seglog.proofs.View.{log-view, head-snoc}
+use Rattle.seglog.proofs.Fit.{fitting-is, view-shaped, view-fits}
 use Rattle.segment.specs.Segment.{imageIn, endedAt, paddedTo}
 use Rattle.seglog.proofs.Chain.{EndsGood, are-ends}
 use Rattle.seglog_prune.specs.Drop.{dropOld}
@@ -36,21 +37,17 @@ use Rattle.seglog_prune.specs.Prune.{
   oldestLog,
   recentLog,
 }
+use Rattle.seglog_prune.specs.Promised.{OldestShaped, RecentShaped}
 use Rattle.seglog_prune.proofs.Decide.{Inner, prune-ways, fits-plain}
 use Rattle.seglog_prune.proofs.PruneInside.{keptOf, cutSegment, frontKept, InRange, in-range, CutGood, cut-good}
 use Rattle.seglog_prune.proofs.DropKept.{old-kept, old-fewer, chain-last, first-from, first-to, new-low}
 
 -- ---- a view that is well shaped is the view of a log that fits
 
-pub view-fits : (a : View) (n : ℕ) → SizesObey (a .k) (a .c) (a .m) → length (a .segs) ≤ a .k → n ≡ a .k * a .c
-    → chainOf (a .k) (a .c) (a .segs) ≡ true → apartOf (a .segs) ≡ true → endsOf (a .start) (a .end) (a .segs) ≡ true
+passed-fits : (a : View) (n : ℕ) → SizesObey (a .k) (a .c) (a .m) → length (a .segs) ≤ a .k → n ≡ a .k * a .c
+    → chainOf (a .k) (a .c) (a .segs) ≡ true → slotsApart (a .segs) ≡ true → endsOf (a .start) (a .end) (a .segs) ≡ true
     → fittingOf (logOf a) n ≡ true
-unfolding fittingOf shapedOf
-view-fits a n sizes few area chain apart ends =
-    let shaped : shapedOf a ≡ true =
-    simp (are-sizes (a .k) (a .c) (a .m) sizes, le-leb (length (a .segs)) (a .k) few, chain, apart, ends) in
-    both-and (plainOf (logOf a)) (shapedOf (viewOf (logOf a)) && eqb n (a .k * a .c)) (plain-log a (omega (arith, sizes .few-slots)))
-    (both-and (shapedOf (viewOf (logOf a))) (eqb n (a .k * a .c)) (ap shapedOf (view-log a) ∙ shaped) (eq-eqb n (a .k * a .c) area))
+passed-fits a n sizes few area chain apart ends = view-fits a sizes few n (view-shaped a sizes few chain apart ends) area
 
 -- what an accepted prune leaves fits
 abbrev Good : Outcome Pruned → Type 0
@@ -63,13 +60,13 @@ module _ (l : Log) (area : List ℕ) (n : ℕ) (rest : Outcome Pruned) (long : l
   fits = fittingOf l (length area)
 
   prune-good : (Inner (viewOf l) fits n → Good rest) → Good (pruneOf (viewOf l) fits area n rest)
-  unfolding chainOf apartOf endsOf
+  unfolding chainOf all linked distinct endsOf
   prune-good h = prune-ways (viewOf l) fits area n rest Good (λ q. tt) empty same tt tt h
     where
       empty : fits ≡ true → Good (pruned (emptyOf (l .k) (l .c) (l .m)) area)
       empty good =
           let f = fitting-is l (length area) long good in
-          view-fits (emptyOf (l .k) (l .c) (l .m)) (length area) (f .sizes) (omega arith) (f .area) refl refl refl
+          passed-fits (emptyOf (l .k) (l .c) (l .m)) (length area) (f .sizes) (omega arith) (f .area) refl refl refl
 
       same : fits ≡ true → Good (pruned (viewOf l) area)
       same good = ap (λ (x : Log). fittingOf x (length area)) (log-view l long (fits-plain l (length area) good)) ∙ good
@@ -82,7 +79,7 @@ oldest-fits l area n i r =
     let gs : List Segment = viewOf l .segs in
     let fit = r .fit in
     let kept = old-kept (l .k) (l .c) n (l .start) (l .end) gs (r .some) (fit .chain) (fit .apart) (r .ends) (i .lower) (i .upper) in
-    view-fits (startedAt (viewOf l) n (dropOld n gs)) (length area) (fit .sizes) (omega (arith, old-fewer n gs, r .listed, fit .few))
+    passed-fits (startedAt (viewOf l) n (dropOld n gs)) (length area) (fit .sizes) (omega (arith, old-fewer n gs, r .listed, fit .few))
     (fit .area) (kept .chain) (kept .apart) (are-ends n (l .end) (dropOld n gs) (kept .some) (kept .ends))
 
 oldest-good : (l : Log) (area : List ℕ) (n : ℕ) → length (l .segs) ≡ 64 → Good (oldestLog l area n)
@@ -92,8 +89,7 @@ oldest-good l area n long =
     (λ i. oldest-fits l area n i (in-range l area n long i))
 
 -- the log that prune oldest answers is well shaped, and fits the area, which stays
-pub oldest-shaped : (l : Log) (area : List ℕ) (n : ℕ) (a : View) (after : List ℕ) → length (l .segs) ≡ 64
-    → oldestLog l area n ≡ pruned a after → fittingOf (logOf a) (length after) ≡ true
+pub oldest-shaped : OldestShaped
 oldest-shaped l area n a after long e = subst Good e (oldest-good l area n long)
 
 -- ---- prune recent
@@ -142,11 +138,11 @@ module _ (l : Log) (area : List ℕ) (n : ℕ) (i : Inner (viewOf l) (fittingOf 
 
   recent-fits : Good (cutOff (viewOf l) area n hs g (done x))
   recent-fits =
-      let apart = snoc-apart hs g (r .apart) in
-      view-fits (endedView (viewOf l) n hs g x) (length (paddedTo (l .c) area g x))
+      let apart = snoc-distinct slotNumber hs g (r .apart) in
+      passed-fits (endedView (viewOf l) n hs g x) (length (paddedTo (l .c) area g x))
       (r .fit .sizes) after-few (splice-length (g .slot * l .c + g .size) (replicate (x - g .size) 0) area ∙ r .fit .area)
       (chain-last (l .k) (l .c) hs g n x (r .chain) (good .low) (good .high) (new-low n (viewOf l .segs) (r .stays)))
-      (apart-snoc hs (endedAt g n x) (apart .0) (apart .1))
+      (distinct-more slotNumber hs (endedAt g n x) (apart .0) (apart .1))
       (are-ends (l .start) n after (omega (arith, length-append hs (endedAt g n x ∷ []))) after-ends)
 
 recent-any : (l : Log) (area : List ℕ) (n : ℕ) → Inner (viewOf l) (fittingOf l (length area)) n → InRange l area n → (o : Outcome ℕ)
@@ -159,6 +155,5 @@ unfolding recentLog pruneRecentOf
 recent-good l area n long = prune-good l area n _ long (λ i. recent-any l area n i (in-range l area n long i) _ refl)
 
 -- the log that prune recent answers is well shaped, and fits the area
-pub recent-shaped : (l : Log) (area : List ℕ) (n : ℕ) (a : View) (after : List ℕ) → length (l .segs) ≡ 64
-    → recentLog l area n ≡ pruned a after → fittingOf (logOf a) (length after) ≡ true
+pub recent-shaped : RecentShaped
 recent-shaped l area n a after long e = subst Good e (recent-good l area n long)

@@ -3,3 +3,4 @@ pub mod Drop
 pub mod Cut
 pub mod Prune
 pub mod Steps
+pub mod Promised

@@ -8,7 +8,8 @@ use Rattle.segment.specs.declared.Segment.{Segment}
 use Rattle.segment.specs.Segment.{imageIn, endedAt, paddedTo}
 use Rattle.seglog.specs.declared.Log.{Log}
 use Rattle.seglog.specs.declared.Logged.{Logged}
-use Rattle.seglog.specs.Log.{View, viewOf, logOf, emptyOf, headOf, frontOf, fittingOf}
+use Rattle.seglog.specs.View.{View, viewOf, logOf, emptyOf, headOf, frontOf}
+use Rattle.seglog.specs.Fit.{fittingOf}
 use Rattle.seglog.specs.New.{refusedLog, accepted}
 use Rattle.seglog_prune.specs.declared.Early.{Early}
 use Rattle.seglog_prune.specs.declared.Early.the-variants.{Refused, Empty, Same, Onward}

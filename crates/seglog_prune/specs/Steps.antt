@@ -1,10 +1,9 @@
 -- What the parts of the code answer, in the terms of Prune.antt. Assumes nothing.
-use mathlib.Core.List.{List, [], _∷_, _++_}
 use Prim.Native.Nat.{ℕ, _-_}
 use lib.ListN.{getD, take}
 use Rattle.seglog.specs.declared.Log.{Log}
 use Rattle.seglog.specs.declared.Logged.{Logged}
-use Rattle.seglog.specs.Log.{logOf, viewOf, emptyOf}
+use Rattle.seglog.specs.View.{logOf, viewOf, emptyOf}
 use Rattle.segment.specs.Segment.{noSegment}
 use Rattle.seglog.specs.New.{refusedLog, accepted}
 use Rattle.seglog_prune.specs.declared.Early.{Early}

@@ -15,6 +15,10 @@ noSegment = record { id = 0; slot = 0; size = 0; min = 0; max = 0 }
 abbrev pub noRow : ImageRow
 noRow = record { id = 0; slot = 0; size = 0 }
 
+-- a segment's slot, the number that it has for its own
+abbrev pub slotNumber : Segment → ℕ
+slotNumber g = g .slot
+
 -- an image: the first `size` bytes of its slot, slots of c bytes
 abbrev pub imageAt : List ℕ → (c slot size : ℕ) → List ℕ
 imageAt area c slot size = part (slot * c) size area

@@ -1,7 +1,7 @@
 -- The laws of a written name: its length, its pieces, the cases of what `format` answers and leaves in the buffer, and that an answer
 -- is determined by its number and value.
 -- Assumes nothing.
-use mathlib.Core.Path.{_≡_, refl, sym, ap, _∙_}
+use mathlib.Core.Path.{_≡_, refl, ap, _∙_}
 use mathlib.Core.List.{List, _++_, append-assoc}
 use Prim.Native.Nat.{ℕ, _+_, _≤_, _<_}
 use native.Mathlib.Omega.{arith}
@@ -12,6 +12,7 @@ use Rattle.lists.specs.Choice.{pick}
 use Rattle.lists.specs.Outcome.{Outcome, refused, done}
 use Rattle.lists.specs.Splice.{splice}
 use Rattle.lists.proofs.Splice.{splice-join}
+use Rattle.lists.proofs.Outcome.{determined}
 use Rattle.segment_filename.specs.declared.Formatted.{Formatted}
 use Rattle.segment_filename.specs.declared.Formatted.the-variants.{Length, EmptyPrefix, BufferShort}
 use Rattle.segment_filename.specs.Digits.{digits}
@@ -77,4 +78,4 @@ formatted-by BufferShort = refl
 
 -- an answer is determined by its number and value
 pub format-determined : (a b : Formatted) → formatOutcome a ≡ formatOutcome b → a ≡ b
-format-determined a b e = sym (formatted-by a) ∙ ap formattedBy e ∙ formatted-by b
+format-determined = determined formatOutcome formattedBy formatted-by

@@ -1,6 +1,6 @@
 -- The cases of what `parse` answers, one behind the other, in document 01's order; and that an answer is determined by its number and
 -- value. Assumes nothing.
-use mathlib.Core.Path.{_≡_, refl, sym, ap, _∙_}
+use mathlib.Core.Path.{_≡_, refl}
 use mathlib.Core.Bool.{true, false}
 use mathlib.Core.List.{List, [], _∷_}
 use Prim.Native.Nat.{ℕ}
@@ -9,6 +9,7 @@ use lib.Dec.{eqb}
 use borrow.Author.Tests.{eq-eqb, ne-eqb}
 use Rattle.lists.specs.Choice.{_⇒_, first}
 use Rattle.lists.specs.Outcome.{Outcome, refused, done}
+use Rattle.lists.proofs.Outcome.{determined}
 use Rattle.segment_filename.specs.declared.Parsed.{Parsed}
 use Rattle.segment_filename.specs.declared.Parsed.the-variants.{Id, EmptyPrefix, PrefixMissing, SuffixMissing}
 use Rattle.segment_filename.specs.declared.Parsed.the-variants.{DotMissing, NotTenBytes, NotU32}
@@ -70,4 +71,4 @@ parsed-by NotU32 = refl
 
 -- an answer is determined by its number and value
 pub parse-determined : (a b : Parsed) → parseOutcome a ≡ parseOutcome b → a ≡ b
-parse-determined a b e = sym (parsed-by a) ∙ ap parsedBy e ∙ parsed-by b
+parse-determined = determined parseOutcome parsedBy parsed-by

@@ -1,11 +1,11 @@
 -- What is written is read back: names, and the buffer that `format` leaves.
--- Assumes nothing.
+-- Statements without a sentence of their own: specs/Promised.antt. Assumes nothing.
 use mathlib.Core.Path.{_≡_, refl, sym, ap, _∙_}
 use mathlib.Core.Bool.{true}
 use mathlib.Core.List.{List, _++_, append-assoc}
 use Prim.Native.Nat.{ℕ, _+_, _^_, _≤_, _<_}
 use native.Mathlib.Omega.{arith}
-use lib.ListN.{length, take, drop}
+use lib.ListN.{length, take}
 use borrow.Author.Tests.{le-leb}
 use Rattle.lists.specs.Outcome.{done}
 use Rattle.lists.specs.Splice.{splice}
@@ -16,6 +16,7 @@ use Rattle.segment_filename.specs.Words.{startsWith, endsWith, behind, b
 use Rattle.segment_filename.specs.Digits.{digits, valueFrom, unsigned, isU32, valueOf}
 use Rattle.segment_filename.specs.Formatting.{dot, suffix, nameOf, formatOf, formatInto}
 use Rattle.segment_filename.specs.Parsing.{withoutPrefix, withoutSuffix, idBytes, parseOf}
+use Rattle.segment_filename.specs.Promised.{FormatRoom, FormatLater, ParseFormat, FormatInjective}
 use Rattle.segment_filename.proofs.Words.{starts-append, behind-append, ends-append, before-append}
 use Rattle.segment_filename.proofs.Digits.{digits-length, digits-are-digits, digits-value, digits-unsigned, digits-injective}
 use Rattle.segment_filename.proofs.Formatting.{name-length, format-refuses-30, format-refuses-36, format-accepts}
@@ -58,41 +59,46 @@ module _ (prefix : List ℕ) (id : ℕ) where
       parse-reads prefix (nameOf prefix id) some name-begins name-ends name-dotted (ap length name-digits ∙ digits-length 10 id)
       ∙ rw (name-digits, good, value) refl
 
--- two ids give different names
-pub format-injective : (prefix : List ℕ) (a b : ℕ) → a < 2 ^ 32 → b < 2 ^ 32 → nameOf prefix a ≡ nameOf prefix b → a ≡ b
+pub format-injective : FormatInjective
 format-injective prefix a b h g e =
     digits-injective 10 a b (id-places a h) (id-places b g) (sym (name-digits prefix a) ∙ ap (idBytes prefix) e ∙ name-digits prefix b)
 
-module _ (prefix : List ℕ) (id : ℕ) (out : List ℕ) (n : ℕ) (accepted : formatOf prefix (length out) ≡ done n) where
+module _ (prefix out : List ℕ) (n : ℕ) (accepted : formatOf prefix (length out) ≡ done n) where
   -- an accepted prefix isn't empty
   pub format-prefix : length prefix ≡ 0 → ⊥
-  format-prefix h = refused-is-not-done (format-refuses-30 prefix id out h .0 ∙ accepted)
+  format-prefix h = refused-is-not-done (format-refuses-30 prefix 0 out h .0 ∙ accepted)
 
-  -- an accepted name has room
-  pub format-room : length prefix + 15 ≤ length out
-  format-room =
+  -- an accepted buffer has room
+  enough : length prefix + 15 ≤ length out
+  enough =
       by-order (length prefix + 15) (length out) (λ h. h)
-      (λ h. refused-is-not-done (format-refuses-36 prefix id out format-prefix h .0 ∙ accepted))
+      (λ h. refused-is-not-done (format-refuses-36 prefix 0 out format-prefix h .0 ∙ accepted))
+
+pub format-room : FormatRoom
+format-room prefix out n accepted =
+    let fits = enough prefix out n accepted in
+    let is = done-injective (format-accepts prefix 0 out (format-prefix prefix out n accepted) fits .0 ∙ accepted) in
+    (sym is, omega arith)
+
+module _ (prefix : List ℕ) (id : ℕ) (out : List ℕ) (n : ℕ) (accepted : formatOf prefix (length out) ≡ done n) where
+  into : formatInto prefix id out ≡ splice 0 (nameOf prefix id) out
+  into = sym (format-accepts prefix id out (format-prefix prefix out n accepted) (enough prefix out n accepted) .1)
 
   -- the answer is the name's length
   pub format-length : n ≡ length (nameOf prefix id)
-  format-length =
-      sym (done-injective (format-accepts prefix id out format-prefix format-room .0 ∙ accepted)) ∙ sym (name-length prefix id)
-
-  into : formatInto prefix id out ≡ splice 0 (nameOf prefix id) out
-  into = sym (format-accepts prefix id out format-prefix format-room .1)
-
-  room : 0 + length (nameOf prefix id) ≤ length out
-  room = omega (arith, name-length prefix id, format-room)
+  format-length = format-room prefix out n accepted .0 ∙ sym (name-length prefix id)
 
   -- so many bytes of the buffer are the name
   pub format-written : take n (formatInto prefix id out) ≡ nameOf prefix id
-  format-written = rw (into, format-length) (splice-inside 0 (nameOf prefix id) out room)
+  format-written =
+      rw (into, format-length)
+      (splice-inside 0 (nameOf prefix id) out (omega (arith, format-length, format-room prefix out n accepted .1)))
 
-  -- later bytes stay
-  pub format-later : drop n (formatInto prefix id out) ≡ drop n out
-  format-later = rw into (splice-behind 0 (nameOf prefix id) out n (omega (arith, format-length)))
+pub format-later : FormatLater
+format-later prefix id out n accepted =
+    rw (into prefix id out n accepted)
+    (splice-behind 0 (nameOf prefix id) out n (omega (arith, format-length prefix id out n accepted)))
 
-  -- what is written is read back as the same id
-  pub parse-format : id < 2 ^ 32 → parseOf prefix (take n (formatInto prefix id out)) ≡ done id
-  parse-format small = rw format-written (parse-name prefix id format-prefix small)
+pub parse-format : ParseFormat
+parse-format prefix id out n accepted small =
+    rw (format-written prefix id out n accepted) (parse-name prefix id (format-prefix prefix out n accepted) small)

@@ -15,7 +15,7 @@ use Rattle.lists.proofs.Bools.{and-both}
 use Rattle.lists.proofs.Cases.{pick-either}
 use Rattle.lists.proofs.Splice.{part-length, part-part, splice-fits, splice-length, splice-before, splice-after, splice-grow}
 use Rattle.lists.proofs.Splice.{splice-slot, splice-join, splice-same}
-use Rattle.lists.proofs.Writes.{part-splice}
+use Rattle.lists.proofs.SpliceWrites.{part-splice}
 use Rattle.little_endian.specs.LittleEndian.{leBytes}
 use Rattle.little_endian.proofs.LittleEndian.{le-bytes-length}
 use Rattle.record.specs.Record.{maxPayload, headerBytes, recordRoom, recordBytes}

@@ -26,7 +26,8 @@ room n = pad-rounded 4096 (12 + n) (lit< tt)
 
 -- the table
 pub specimens : Specimens
-unfolding nameOf formatOf parseOf same startsWith endsWith digits allDigits valueFrom signLength leAt leBytes numberAt u32At compareKeys any insert sort clash eraseAt reinstateAt group reinstates reading walk concat sum deltaBytes encodedOf splice
+unfolding nameOf formatOf parseOf same startsWith endsWith digits allDigits valueFrom signLength leAt leBytes numberAt u32At compareKeys
+    any insert sort clash eraseAt reinstateAt group reinstates reading walk concat sum deltaBytes encodedOf splice
 specimens =
     record {
       one-page = room 4084;

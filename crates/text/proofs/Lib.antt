@@ -1,3 +1,3 @@
-pub mod Digits
+pub mod DecimalDigits
 pub mod Texts
 pub mod Unique

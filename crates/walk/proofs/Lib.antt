@@ -1,6 +1,6 @@
 pub mod Judging
 pub mod Walk
-pub mod Depends
-pub mod Front
+pub mod Headers
+pub mod WalkFront
 pub mod Records
 pub mod Unique

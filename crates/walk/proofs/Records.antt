@@ -9,9 +9,9 @@ use lib.ListN.{length, length-append}
 use lib.Dec.{lit<}
 use borrow.Author.Tests.{lt-ltb}
 use Rattle.page.specs.Page.{paddedEnd}
-use Rattle.page.proofs.Page.{pad-after, pad-multiple, multiple-add}
+use Rattle.page.proofs.Page.{pad-after, pad-multiple}
 use Rattle.record.specs.Record.{maxPayload, recordRoom, recordBytes, headerAt}
-use Rattle.record.proofs.Record.{record-length, room-ge, room-pages, record-header}
+use Rattle.record.proofs.Record.{record-length, room-ge, record-header}
 use Rattle.walk.specs.declared.Scan.{Scan}
 use Rattle.walk.specs.declared.Step.the-variants.{Next}
 use Rattle.walk.specs.Judging.{maxImage, followsOf, advancedOf, judgeOf, recordStep, moreOf}

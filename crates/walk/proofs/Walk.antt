@@ -1,6 +1,6 @@
 -- The laws of the walk of one image: at its end, one record more, a fault, and induction along the walk. Nobody above sees the fuel.
 -- Assumes nothing.
-use mathlib.Core.Path.{_≡_, refl, sym, _∙_}
+use mathlib.Core.Path.{_≡_, refl, sym}
 use mathlib.Core.Bool.{Bool, true, false}
 use Prim.Native.Nat.{ℕ, _-_, _<_}
 use native.Mathlib.Omega.{arith}

@@ -11,7 +11,7 @@ use Rattle.lists.specs.Each.{any}
 use Rattle.lists.proofs.Arrays.{unmapped}
 use Rattle.delta.specs.Table.{erased, rowAt}
 use Rattle.delta_encode.specs.Bytes.{outside}
-use Rattle.delta_encode.proofs.Any.{any-yes, any-no, any-end, outside-yes, outside-absent, outside-within}
+use Rattle.delta_encode.proofs.BytesOutside.{any-yes, any-no, any-end, outside-yes, outside-absent, outside-within}
 use borrow.Author.Needs.{needs}
 use Rattle.delta_encode.proofs.any_outside.Statement.{statement}
 use Rattle.delta_encode.proofs.any_outside.Tie as tie

@@ -7,10 +7,10 @@ use lib.ListN.{length}
 use native.Mathlib.Omega.{arith}
 use Rattle.lists.specs.Splice.{splice}
 use Rattle.delta.specs.Table.{rowsOf}
-use Rattle.delta.proofs.Arranging.{arranged-clash}
+use Rattle.delta.proofs.TableArranged.{arranged-clash}
 use Rattle.delta_encode.specs.Bytes.{bytesOf}
-use Rattle.delta_encode.proofs.Whole.{Known, known, arranged-few, four-parts, ends-many, ends-outside, ends-twins, ends-short}
-use Rattle.delta_encode.proofs.Whole.{ends-written}
+use Rattle.delta_encode.proofs.BytesWhole.{Known, known, arranged-few, four-parts, ends-many, ends-outside, ends-twins, ends-short}
+use Rattle.delta_encode.proofs.BytesWhole.{ends-written}
 use borrow.Author.Needs.{needs}
 use Rattle.delta_encode.proofs.encode.Statement.{statement}
 use Rattle.delta_encode.proofs.encode.Tie as tie

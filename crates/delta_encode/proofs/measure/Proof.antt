@@ -14,7 +14,7 @@ use Rattle.delta_encode.proofs.Bounds.{count-start, erases-fit, reinsta
 use Rattle.delta_encode.proofs.Bounds.{one-more}
 use Rattle.delta_encode.proofs.Bounds.{erase-size, reinstate-size, length-fits, erase-fits, erase-bound, reinstate-fits}
 use Rattle.delta_encode.proofs.Bounds.{reinstate-bound}
-use Rattle.delta_encode.proofs.Writes.{sized-end, sized-before}
+use Rattle.delta_encode.proofs.BytesWritten.{sized-end, sized-before}
 use borrow.Author.Needs.{needs}
 use Rattle.delta_encode.proofs.measure.Statement.{statement}
 use Rattle.delta_encode.proofs.measure.Tie as tie

@@ -10,8 +10,9 @@ use Rattle.delta.specs.Table.{erased, rowsOf, rowAt}
 use Rattle.lists.proofs.Bounds.{index-below, index-falls, index-fits, index-up}
 use Rattle.delta_encode.specs.Bytes.{concat, eraseBytes}
 use Rattle.delta_encode.proofs.Bounds.{row-fits, rows-within, key-end, key-fits}
-use Rattle.delta_encode.proofs.Writes.{Writing, writing-start, writing-step, writing-room, writing-end, concat-end, erase-absent}
-use Rattle.delta_encode.proofs.Writes.{erase-present}
+use Rattle.delta_encode.proofs.BytesWritten.{Writing, writing-start, writing-step, writing-room}
+use Rattle.delta_encode.proofs.BytesWritten.{writing-end, concat-end, erase-absent}
+use Rattle.delta_encode.proofs.BytesWritten.{erase-present}
 use borrow.Author.Needs.{needs, zero≤}
 use Rattle.delta_encode.proofs.put_erases.Statement.{statement}
 use Rattle.delta_encode.proofs.put_erases.Tie as tie

@@ -12,8 +12,8 @@ use Rattle.delta.specs.Table.{erased, rowsOf, rowAt}
 use Rattle.lists.proofs.Bounds.{index-below, index-falls, index-fits, index-up}
 use Rattle.delta_encode.specs.Bytes.{concat, reinstateBytes, valueOf, outside}
 use Rattle.delta_encode.proofs.Bounds.{row-fits, rows-within, piece-room, piece-end}
-use Rattle.delta_encode.proofs.Writes.{Writing, writing-start, writing-step, writing-room, writing-end, concat-end}
-use Rattle.delta_encode.proofs.Writes.{reinstate-present, reinstate-absent, inside, present-length}
+use Rattle.delta_encode.proofs.BytesWritten.{Writing, writing-start, writing-step, writing-room, writing-end, concat-end}
+use Rattle.delta_encode.proofs.BytesWritten.{reinstate-present, reinstate-absent, inside, present-length}
 use borrow.Author.Needs.{needs, zero≤}
 use Rattle.delta_encode.proofs.put_reinstates.Statement.{statement}
 use Rattle.delta_encode.proofs.put_reinstates.Tie as tie

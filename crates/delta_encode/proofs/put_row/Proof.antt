@@ -9,7 +9,7 @@ use Rattle.little_endian.specs.LittleEndian.{leBytes}
 use Rattle.little_endian.proofs.LittleEndian.{le-bytes-length}
 use Rattle.lists.proofs.Bounds.{part-first, part-size}
 use Rattle.delta_encode.proofs.Bounds.{number-fits, value-fits, end-fits, row-end, part-fits}
-use Rattle.delta_encode.proofs.Writes.{splice-three}
+use Rattle.delta_encode.proofs.BytesWritten.{splice-three}
 use borrow.Author.Needs.{needs}
 use Rattle.delta_encode.proofs.put_row.Statement.{statement}
 use Rattle.delta_encode.proofs.put_row.Tie as tie

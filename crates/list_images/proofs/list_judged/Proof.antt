@@ -7,11 +7,14 @@ use borrow.Author.Needs.{needs}
 use Rattle.list_images.proofs.list_judged.Statement.{statement}
 use Rattle.list_images.proofs.list_judged.Tie as tie
 
+-- the call, from where the images' room is known
+abbrev called : tie.After-room → tie.Start
+called c = c .before .before .before .before .before
+
 slice-aggregate-used : tie.Need-slice-aggregate-used
 slice-aggregate-used c =
     let asked = c .before .before in
-    let start = asked .before .before .before .before .before in
-    sym (length-take-le (asked .room .result) (start .args .area .now) (omega arith))
+    sym (length-take-le (asked .room .result) (called asked .args .area .now) (omega arith))
 
 pub list-judged-spec : {M : Type 1} → statement M
 list-judged-spec =

@@ -5,12 +5,22 @@ use borrow.Author.Needs.{needs}
 use Rattle.listing.proofs.row.Statement.{statement}
 use Rattle.listing.proofs.row.Tie as tie
 
+-- where each number was put, from behind the next
+abbrev first-of : tie.After-put-named → tie.After-put-number
+first-of c = c .before .before .before .before .before
+
+abbrev second-of : tie.After-put-named2 → tie.After-put-named
+second-of c = c .before .before .before .before .before
+
+abbrev third-of : tie.After-put-named3 → tie.After-put-named2
+third-of c = c .before .before .before .before .before
+
 returns : tie.Need-returns
 returns c =
     let fourth = c .before .before in
-    let third = fourth .before .before .before .before .before in
-    let second = third .before .before .before .before .before in
-    let first = second .before .before .before .before .before in
+    let third = third-of fourth in
+    let second = second-of third in
+    let first = first-of second in
     put-join (put-join (put-join (first .put-number .ensures) (second .put-named .ensures)) (third .put-named2 .ensures))
     (fourth .put-named3 .ensures)
 

@@ -19,7 +19,8 @@ loop-holds c = rest-begins (put-inside (c .before .before .put .ensures) .1)
 returns : tie.Need-returns Inv-loop μ-loop
 returns c =
     let loop = c .before .before in
-    put-join (loop .before .before .before .put .ensures) (rest-short (loop .loop .left) (c .before .loop-test .taken) (c .if1 .taken) (loop .loop .inv))
+    put-join (loop .before .before .before .put .ensures)
+    (rest-short (loop .loop .left) (c .before .loop-test .taken) (c .if1 .taken) (loop .loop .inv))
 
 loop-again : tie.Need-loop-again Inv-loop μ-loop
 loop-again c =

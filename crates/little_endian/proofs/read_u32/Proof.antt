@@ -1,6 +1,5 @@
 -- `little_endian::read_u32` meets its contract.
 -- Assumes nothing.
-use native.Mathlib.Omega.{arith}
 use mathlib.Core.Path.{ap, sym, _∙_}
 use borrow.Author.Tests.{leb-true, not-true, not-false}
 use Rattle.lists.specs.Outcome.{done}

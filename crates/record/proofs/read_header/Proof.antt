@@ -12,12 +12,15 @@ use borrow.Author.Needs.{needs}
 use Rattle.record.proofs.read_header.Statement.{statement}
 use Rattle.record.proofs.read_header.Tie as tie
 
--- the places of the code: the image and the position, and where the length was read
+-- the places of the code: the call, its image and position, and where the length was read
+abbrev called : tie.After-read-u32 → tie.Start
+called c = c .before .before .before .before
+
 abbrev img : tie.After-read-u32 → List ℕ
-img c = c .before .before .before .before .args .img .now
+img c = called c .args .img .now
 
 abbrev pos : tie.After-read-u32 → ℕ
-pos c = c .before .before .before .before .args .pos
+pos c = called c .args .pos
 
 abbrev told-of : tie.After-known-told → tie.After-read-u32
 told-of c = c .before .before .before

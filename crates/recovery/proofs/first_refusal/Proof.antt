@@ -4,7 +4,7 @@ use mathlib.Core.Path.{_≡_, sym, _∙_}
 use mathlib.Core.Bool.{true, false}
 use borrow.Author.Needs.{needs}
 use borrow.Author.Tests.{not-true, not-false, lt-ltb, le-ltb}
-use Rattle.recovery.specs.Kept.{firstRefusal}
+use Rattle.recovery.specs.Recovery.{firstRefusal}
 use Rattle.recovery.proofs.first_refusal.Statement.{statement}
 use Rattle.recovery.proofs.first_refusal.Tie as tie
 

@@ -26,7 +26,8 @@ use prog.Wp.{Heap, Env, Calls, Loops, Wp, next, exits, afterSeq, afterTurn, WpFn
 use ghost.Atoms.{Atoms, sem}
 use contract.Monad.{Fun, fact, factI}
 use contract.Running.{givenOf, tables, tablesOf}
-use types.Kit.{Given, Item, ‵, raw, some, later, _⊛_, ⋆, Post as WpPost, anyQ, post, prop, runs, Seq, Step, step, _$_, _∵_, !, qed, by, move, keep}
+use types.Kit.{Given, Item, ‵, raw, some, later, _⊛_, ⋆, Post as WpPost, anyQ, post, prop}
+use types.Kit.{runs, Seq, Step, step, _$_, _∵_, !, qed, by, move, keep}
 use types.Kit.{drop, use0, use1, split, join, pick as pick′, rewrite, fsplit, fjoin, suffices, frame, await, done}
 use types.Run.{Opd, look, look-raw, init, store, forget, stop, hop, fld, from, load, lit, bin, of-opd, and-then, no-more, assigns}
 use types.Run.{assigns-last, land, first, blocks, branches, skips, stays, leaves-loop, loops, again, returns, returns-within, enter}
@@ -53,13 +54,14 @@ use denote.Triple.Table.{entered, cited}
 use denote.Triple.Walked.{says, Stays, stay-dropped, walkOf, goes-dropped, Walks, ends-at, walked, walk-meets}
 use denote.Exit.{yes}
 use denote.Signature.{Slot, plain, shrSliceOf}
+use Rattle.lists.proofs.Bounds.{index-below, index-falls, index-up}
 use Rattle.segment.specs.declared.ImageRow.{ImageRow}
 use Rattle.segment.specs.Segment.{noRow}
 use Rattle.segment.proofs.ImageRow as S
 use Rattle.segment.proofs.ImageRow.Laws as S′
 use Rattle.image_rows.specs.Rows.{noRows, tooMany, putRow}
 use Rattle.image_rows.specs.declared.Rows.{Rows}
-use Rattle.recovery.proofs.Fold.{upTo, up-zero, up-next, up-all, up-many}
+use Rattle.recovery.proofs.RowsTurns.{upTo, up-zero, up-next, up-all, up-many}
 use Rattle.image_rows.proofs.Rows as T
 use Rattle.image_rows.proofs.Rows.Laws as T′
 use Rattle.recovery.proofs.no_rows as none
@@ -125,9 +127,6 @@ module _ {M : Type 1} {𝓤 : URA M} {H : Heap 𝓤} {A : Atoms 𝓤} {K : Type 
   whiles k 𝓣 ≺ wf I turn t =
       first k $ blocks k $ loops k 𝓣 ≺ wf I (λ u. turn u _ (λ v less. again k ≺ I u v less) (λ Γ. step (λ s. record { prf = s .prf }))) t
 
-in-room : (i n : ℕ) → i < n → n ≤ 64 → i < 64
-in-room i n l m = omega arith
-
 bytes-fit : (i n : ℕ) → i < n → n * 16 < 2 ^ 63 → i * 16 < 2 ^ 64
 bytes-fit i n l room = omega arith
 
@@ -136,12 +135,6 @@ count-fits i n l fits = omega arith
 
 next-fits : (i n : ℕ) → i < n → n < 2 ^ 64 → i + 1 < 2 ^ 64
 next-fits i n l fits = omega arith
-
-next-in : (i n : ℕ) → i < n → i + 1 ≤ n
-next-in i n l = omega arith
-
-less : (i n : ℕ) → i < n → n - (i + 1) < n - i
-less i n l = omega arith
 
 at-end : (i n : ℕ) → i ≤ n → n ≤ i → i ≡ n
 at-end i n l m = omega arith
@@ -337,7 +330,7 @@ module _ {M : Type 1} (𝓤 : URA M) (H : Heap 𝓤) (A : Atoms 𝓤) (W : Given
         elem-back ! R q′ xs i noRow (row-val (getD xs i noRow) ∷ []) b o (ltb-true i n yes) $
         -- acc = put_row(acc, i, row). [what it asks; the row of rows; the open borrow; _10; …; _0; …]
         use0 W (raw (Put 𝓤 H A mem run .pre (to-put (upTo xs i) i (getD xs i noRow))))
-        (asks-put (upTo xs i) i (getD xs i noRow) (in-room i n (ltb-true i n yes) (nltb→le 64 n few)) (known .1)
+        (asks-put (upTo xs i) i (getD xs i noRow) (index-below (ltb-true i n yes) (nltb→le 64 n few)) (known .1)
         (count-fits i n (known .0) (room .0)) g) $
         calls-at ! (fmOf 𝓤 H (W .laws) 𝓣) (Put 𝓤 H A mem run) known-put (to-put (upTo xs i) i (getD xs i noRow))
         (and-then ! (load ! (from ! (stop !)) (look ! 19 refl))
@@ -359,11 +352,11 @@ module _ {M : Type 1} (𝓤 : URA M) (H : Heap 𝓤) (A : Atoms 𝓤) (W : Given
         forget ! 4 refl $ forget ! 6 refl $ forget ! 8 refl $ forget ! 10 refl $ forget ! 16 refl $ drop ! $ drop ! $
         use0 W (raw (fact 𝓤 ((i + 1 ≤ n) × Fine (i + 1))))
         (factI 𝓤 ((i + 1 ≤ n) × Fine (i + 1)) (emp 𝓤) (
-          next-in i n (ltb-true i n yes),
+          index-up (ltb-true i n yes),
           is-at r (upTo xs (i + 1)) u is
               (e ∙ sym (up-next xs i (ltb-true i n yes) (nltb→le 64 n few))),
         )) $
-        next-turn (i + 1) (less i n (ltb-true i n yes)))))))) (λ no.
+        next-turn (i + 1) (index-falls (ltb-true i n yes)))))))) (λ no.
         -- it fails: the loop is left, and the result is acc
         rewrite ! 6 (λ (t : Bool). ‵ (fat fullShare tyBool l₈ 0 (vbool t))) no refl $ leaves-loop !
         (load ! (from ! (stop !)) (look ! 6 refl)) $ leave _ $

@@ -1,12 +1,12 @@
--- `recovery::recover` meets its contract: each `return` is a way of the definition (proofs/Ways.antt).
+-- `recovery::recover` meets its contract: each `return` is a way of the definition (proofs/RecoveryWays.antt).
 -- Assumes nothing.
 use mathlib.Core.Path.{_≡_, ap}
 use lib.ListN.{length}
 use borrow.Author.Needs.{needs}
 use Rattle.lists.proofs.Arrays.{unmapped}
 use Rattle.seglog.specs.declared.Log.{Log}
-use Rattle.recovery.proofs.Ways.{Passed, refusal-either, rows-sorted, scan-asks, way-empty, way-scan}
-use Rattle.recovery.proofs.Ways.{did-refused, did-empty, did-scan}
+use Rattle.recovery.proofs.RecoveryWays.{Passed, refusal-either, rows-sorted, scan-asks, recovery-empty, recovery-scans}
+use Rattle.recovery.proofs.RecoveryWays.{did-refused, did-empty, did-scan}
 use Rattle.recovery.proofs.recover.Statement.{statement}
 use Rattle.recovery.proofs.recover.Tie as tie
 
@@ -18,6 +18,13 @@ fit-of c = c .before .before
 
 abbrev start-of : tie.After-first-refusal → tie.Start
 start-of c = fit-of c .before .before .before
+
+-- where the scan answered, and where all tests were passed
+abbrev scanned-of : tie.After-slice-known4 → tie.After-scan
+scanned-of c = c .before .before .before .before
+
+abbrev tested-of : tie.After-scan → tie.Else2
+tested-of c = c .before .before .before .before
 
 -- ---- what holds there
 
@@ -50,7 +57,7 @@ returns-2 c =
     let e = c .before .before in
     let p = passed e in
     did-empty _ _ _ _ _ _ _ (ap (λ (l : Log). record { refusal = 0; rows = 0; log = l }) (c .empty-log .ensures))
-    (way-empty _ _ _ _ _ _ _ _ (p .roomy) (p .range) (p .order) (p .took .fit) (p .took .low) (p .took .apart) (c .before .if2 .taken))
+    (recovery-empty _ _ _ _ _ _ _ _ (p .roomy) (p .range) (p .order) (p .took .fit) (p .took .low) (p .took .apart) (c .before .if2 .taken))
 
 scan-requires : tie.Need-scan-requires
 scan-requires c κs =
@@ -60,12 +67,12 @@ scan-requires c κs =
 
 returns-3 : tie.Need-returns-3
 returns-3 c =
-    let g = c .before .before .before .before in
-    let r = g .before .before .before .before in
+    let g = scanned-of c in
+    let r = tested-of g in
     let e = r .before in
     let p = passed e in
     did-scan _ _ _ _ _ _ _ _ _ _ _ _ _ _ (rows-sorted _ _ _ _ _ _ _ _ _ _ _ _ p (full (start-of (e .before))))
-    (way-scan _ _ _ _ _ _ _ _ (p .roomy) (p .range) (p .order) (p .took .fit) (p .took .low) (p .took .apart) (r .if2 .left))
+    (recovery-scans _ _ _ _ _ _ _ _ (p .roomy) (p .range) (p .order) (p .took .fit) (p .took .low) (p .took .apart) (r .if2 .left))
     (g .scan .ensures)
 
 pub recover-spec : {M : Type 1} → statement M

@@ -8,7 +8,8 @@ use Rattle.replay.proofs.replay_all.Statement.{statement}
 use Rattle.replay.proofs.replay_all.Tie as tie
 
 abbrev Inv-loop : tie.InvT-loop
-Inv-loop file counts₀ area₀ one₀ two₀ log₀ at₀ lines₀ counts area one two log at lines = (lines ≤ 1000000) × (length area ≡ length area₀) × (length one ≡ length one₀) × (length two ≡ length two₀)
+Inv-loop file counts₀ area₀ one₀ two₀ log₀ at₀ lines₀ counts area one two log at lines = (lines ≤ 1000000) × (length area ≡ length area₀)
+    × (length one ≡ length one₀) × (length two ≡ length two₀)
 
 abbrev μ-loop : tie.MeasureT-loop
 μ-loop file counts₀ area₀ one₀ two₀ log₀ at₀ lines₀ counts area one two log at lines = 1000000 - lines

@@ -17,13 +17,20 @@ Inv-loop area₀ m n log₀ left₀ t7 area log left =
 abbrev μ-loop : tie.MeasureT-loop
 μ-loop area₀ m n log₀ left₀ t7 area log left = left
 
+-- the turn, from behind its append; where the log was made, from the loop
+abbrev turn-of : tie.After-append Inv-loop μ-loop → tie.At-loop Inv-loop μ-loop
+turn-of c = c .before .before .before .before
+
+abbrev made-of : tie.At-loop Inv-loop μ-loop → tie.After-new-log Inv-loop μ-loop
+made-of c = c .before .before .before .before
+
 loop-holds : tie.Need-loop-holds Inv-loop μ-loop
 loop-holds c = (search needs, refl)
 
 loop-again : tie.Need-loop-again Inv-loop μ-loop
 loop-again c =
     let call = c .before .before .before in
-    let loop = call .before .before .before .before .loop in
+    let loop = turn-of call .loop in
     let did = call .append .ensures in (
       search needs,
       ap (abcs (loop .left - 1)) (sample-same _ _ (ap (λ r. r .log) (did .0)) (did .1))
@@ -33,7 +40,7 @@ loop-again c =
 returns : tie.Need-returns Inv-loop μ-loop
 returns c =
     let loop = c .before .loop in
-    let made = c .before .before .before .before .before in
+    let made = made-of (c .before) in
     let start = made .before .before .before in
     let whole =
     sym (abcs-none (loop .left) (record { log = loop .log; area = loop .area }) (search needs)) ∙ loop .inv .1

@@ -3,16 +3,17 @@
 use mathlib.Core.Path.{_≡_, refl, sym, _∙_}
 use mathlib.Core.Bool.{true}
 use Prim.Native.Nat.{_-_, _≤_, _<_}
+use lib.Dec.{lit<, lit≤}
 use lib.ListN.{length, getD, drop}
 use borrow.Author.Tests.{not-true, not-false}
 use Rattle.segment.specs.Segment.{noSegment}
-use Rattle.seglog.specs.Log.{zerosOf}
-use Rattle.seglog.proofs.Bounds.{first-below, entry-fits, index-fits, entry-inside, entries-end, index-falls}
-use Rattle.seglog.proofs.Bounds.{some-left, none-left, left-falls, left-below, last-below}
+use Rattle.seglog.specs.View.{zerosOf}
+use Rattle.lists.proofs.Bounds.{index-below, index-falls, index-fits, entry-fits, some-left, none-left, left-falls, left-below}
+use Rattle.seglog.proofs.Bounds.{entry-inside, entries-end, last-below}
 use Rattle.lists.proofs.Arrays.{unmapped}
 use Rattle.lists.proofs.Distinct.{marks}
 use Rattle.seglog.proofs.Fit.{Sized, sized-is, sized-count, fit-sizes, fit-dirty, fit-listed, fit-ends, ends-by}
-use Rattle.seglog.proofs.Rows.{
+use Rattle.seglog.proofs.FitTurns.{
   zeros-found,
   zeros-turn,
   zeros-end,
@@ -59,6 +60,10 @@ long-at st = search (needs, unmapped)
 few-at : (l : tie.At-loop2 Inv-loop μ-loop Inv-loop2 μ-loop2) → start2 l .args .t1 .count ≤ 64
 few-at l = sized-count _ _ (l .loop2 .inv .0)
 
+-- the segment of a turn is among the 64
+turn-below : (c : tie.In-loop2 Inv-loop μ-loop Inv-loop2 μ-loop2) → c .before .loop2 .i - 1 < 64
+turn-below c = index-below (left-below (c .loop2-test .taken) (c .before .loop2 .inv .2 .within)) (few-at (c .before))
+
 -- the slot of a segment that passed its test has a mark
 slot-below : (c : tie.Else3 Inv-loop μ-loop Inv-loop2 μ-loop2)
     → getD (start2 (turn (c .before)) .args .t1 .segs) (turn (c .before) .loop2 .i - 1) noSegment .slot < 64
@@ -94,7 +99,7 @@ returns-2 c =
     (sym (c .before .is-zero .ensures) ∙ not-true _ (c .if2 .taken)))
 
 add-unused : tie.Need-add-unused Inv-loop μ-loop Inv-loop2 μ-loop2
-add-unused c = index-fits (c .before .before .before .loop-test .taken)
+add-unused c = index-fits (c .before .before .before .loop-test .taken) (lit≤ tt)
 
 loop-less : tie.Need-loop-less Inv-loop μ-loop Inv-loop2 μ-loop2
 loop-less c = index-falls (c .before .before .before .loop-test .taken)
@@ -124,10 +129,10 @@ sub-at : tie.Need-sub-at Inv-loop μ-loop Inv-loop2 μ-loop2
 sub-at c = some-left (c .loop2-test .taken)
 
 mul-g : tie.Need-mul-g Inv-loop μ-loop Inv-loop2 μ-loop2
-mul-g c = entry-fits (left-below (c .before .loop2 .inv .2 .within) (few-at (c .before)))
+mul-g c = entry-fits (turn-below c)
 
 element-copy-out-g : tie.Need-element-copy-out-g Inv-loop μ-loop Inv-loop2 μ-loop2
-element-copy-out-g c = left-below (c .before .loop2 .inv .2 .within) (few-at (c .before))
+element-copy-out-g c = turn-below c
 
 returns-3 : tie.Need-returns-3 Inv-loop μ-loop Inv-loop2 μ-loop2
 returns-3 c =
@@ -169,7 +174,7 @@ loop2-again c =
     )
 
 element-copy-out-ends-good : tie.Need-element-copy-out-ends-good Inv-loop μ-loop Inv-loop2 μ-loop2
-element-copy-out-ends-good c = first-below
+element-copy-out-ends-good c = lit< tt
 
 mul-ends-good : tie.Need-mul-ends-good Inv-loop μ-loop Inv-loop2 μ-loop2
 mul-ends-good c =

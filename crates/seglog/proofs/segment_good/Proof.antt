@@ -1,5 +1,5 @@
 -- `segment_good` meets its contract: each test of a number is its own. Assumes nothing.
-use Rattle.seglog.specs.Log.{segOf}
+use Rattle.seglog.specs.Chain.{segOf}
 use Rattle.lists.proofs.Bools.{and-6}
 use borrow.Author.Needs.{needs}
 use Rattle.seglog.proofs.segment_good.Statement.{statement}

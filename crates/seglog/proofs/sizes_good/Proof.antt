@@ -1,5 +1,5 @@
 -- `sizes_good` meets its contract: each test of a number is its own. Assumes nothing.
-use Rattle.seglog.specs.Log.{sizesOf}
+use Rattle.seglog.specs.Fit.{sizesOf}
 use Rattle.lists.proofs.Bools.{and-6}
 use Rattle.seglog.proofs.sizes_good.Statement.{statement}
 use Rattle.seglog.proofs.sizes_good.Tie as tie

@@ -8,9 +8,10 @@ use lib.ListN.{length}
 use borrow.Author.Tests.{not-true, not-false}
 use Rattle.lists.proofs.Arrays.{unmapped}
 use Rattle.record.specs.Record.{recordRoom}
-use Rattle.seglog.specs.Log.{viewOf}
+use Rattle.seglog.specs.View.{viewOf}
 use Rattle.seglog_append.specs.Deciding.{opensOf, nextId}
-use Rattle.seglog.proofs.Bounds.{entry-fits, last-below}
+use Rattle.lists.proofs.Bounds.{entry-fits}
+use Rattle.seglog.proofs.Bounds.{last-below}
 use Rattle.seglog_append.proofs.Deciding.{
   Past,
   Chosen,
@@ -21,7 +22,7 @@ use Rattle.seglog_append.proofs.Deciding.{
   append-refuses-4,
   append-refuses-5,
   append-refuses-6,
-  append-refuses-7,
+  chosen-refuses-7,
   append-places,
   opens-by,
   next-by,
@@ -123,7 +124,8 @@ returns-4 : tie.Need-returns-4
 returns-4 c =
     let opened = c .before .before .before in
     let a = start (tested opened) .args in
-    sym (append-refuses-5 (a .t1) (a .bytes) (a .n) (past (tested opened)) (sym (wanted opened) ∙ c .before .before .if4 .taken)
+    let k = past (tested opened) in
+    sym (append-refuses-5 (a .t1) (a .bytes) (a .n) (k .fits) (k .small) (k .more) (sym (wanted opened) ∙ c .before .before .if4 .taken)
     (sym (next-id (c .before)) ∙ c .if5 .taken))
 
 lowest-free-requires : tie.Need-lowest-free-requires
@@ -148,7 +150,7 @@ returns-6 : tie.Need-returns-6
 returns-6 c =
     let met = c .before .before .before in
     let a = start (tested (met .before)) .args in
-    sym (append-refuses-7 (a .t1) (a .bytes) (a .n) (past (tested (met .before))) (met .if4 .target) (met .if4 .at) (chosen met)
+    sym (chosen-refuses-7 (a .t1) (a .bytes) (a .n) (past (tested (met .before))) (met .if4 .target) (met .if4 .at) (chosen met)
     _ (room-of (c .before .before)) (c .if7 .taken))
 
 returns-7 : tie.Need-returns-7

@@ -6,21 +6,12 @@ use Prim.Native.Nat.{ℕ, _-_, _≤_}
 use native.Mathlib.Omega.{arith}
 use lib.ListN.{getD, take}
 use Rattle.lists.proofs.Arrays.{unmapped}
-use Rattle.lists.proofs.Distinct.{marks}
+use Rattle.lists.proofs.Distinct.{marks, mark-none, mark-some}
+use Rattle.segment.specs.Segment.{slotNumber}
 use Rattle.seglog.specs.declared.Log.{Log}
-use Rattle.seglog.proofs.Slots.{marksOf, mark-none, mark-some}
 use Rattle.seglog_append.specs.Deciding.{freeFrom}
-use Rattle.seglog_append.proofs.Free.{
-  Marked,
-  marked-none,
-  marked-slot,
-  marked-more,
-  marked-all,
-  free-start,
-  free-turn,
-  free-found,
-  free-none,
-}
+use Rattle.seglog_append.proofs.DecidingFree.{Marked, marked-none, marked-slot, marked-more, marked-all}
+use Rattle.seglog_append.proofs.DecidingFree.{free-start, free-turn, free-found, free-none}
 use borrow.Author.Needs.{needs}
 use Rattle.seglog_append.proofs.lowest_free.Statement.{statement}
 use Rattle.seglog_append.proofs.lowest_free.Tie as tie
@@ -32,7 +23,7 @@ abbrev μ-loop : tie.MeasureT-loop
 μ-loop log used₀ i₀ used i = i
 
 abbrev Inv-loop2 : tie.InvT-loop2
-Inv-loop2 log used i free₀ free = (log .k ≤ 64) × (free ≤ log .k) × (used ≡ marksOf (take (log .count) (log .segs)))
+Inv-loop2 log used i free₀ free = (log .k ≤ 64) × (free ≤ log .k) × (used ≡ marks slotNumber 64 (take (log .count) (log .segs)))
     × (freeFrom (log .k) 0 (take (log .count) (log .segs)) ≡ freeFrom (log .k - free) free (take (log .count) (log .segs)))
 
 abbrev μ-loop2 : tie.MeasureT-loop2
@@ -76,8 +67,8 @@ returns c =
     let log = log-of (c .before .before) in
     let gs = take (log .count) (log .segs) in
     sym (l .inv .3
-    ∙ free-found (log .k) (l .free) gs (omega arith) (mark-none gs (l .free) (omega arith) (ap (λ (m : List ℕ). getD m (l .free) 0)
-    (sym (l .inv .2)) ∙ c .if1 .taken)))
+    ∙ free-found (log .k) (l .free) gs (omega arith)
+    (mark-none slotNumber 64 gs (l .free) (omega arith) (ap (λ (m : List ℕ). getD m (l .free) 0) (sym (l .inv .2)) ∙ c .if1 .taken)))
 
 loop2-again : tie.Need-loop2-again Inv-loop μ-loop Inv-loop2 μ-loop2
 loop2-again c =
@@ -89,7 +80,8 @@ loop2-again c =
       l .inv .2,
       l .inv .3
           ∙ free-turn (log .k) (l .free) gs (omega arith)
-          (mark-some gs (l .free) (omega arith) (λ z. c .if1 .left (ap (λ (m : List ℕ). getD m (l .free) 0) (l .inv .2) ∙ z))),
+          (mark-some slotNumber 64 gs (l .free) (omega arith)
+          (λ z. c .if1 .left (ap (λ (m : List ℕ). getD m (l .free) 0) (l .inv .2) ∙ z))),
     )
 
 returns-2 : tie.Need-returns-2 Inv-loop μ-loop Inv-loop2 μ-loop2

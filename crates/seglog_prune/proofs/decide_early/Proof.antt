@@ -6,7 +6,8 @@ use lib.ListN.{length, take}
 use Prim.Native.Nat.{ℕ}
 use borrow.Author.Tests.{not-true, not-false}
 use Rattle.lists.proofs.Arrays.{unmapped}
-use Rattle.seglog.specs.Log.{viewOf, fittingOf}
+use Rattle.seglog.specs.View.{viewOf}
+use Rattle.seglog.specs.Fit.{fittingOf}
 use Rattle.seglog_prune.proofs.Decide.{
   listed-some,
   early-refuses-2,

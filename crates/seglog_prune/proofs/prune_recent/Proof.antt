@@ -2,11 +2,11 @@
 -- Assumes nothing.
 use mathlib.Core.Path.{_≡_, refl, sym, ap, _∙_}
 use mathlib.Core.List.{List}
-use Prim.Native.Nat.{ℕ, _+_, _-_, _*_, _≤_, _<_}
+use Prim.Native.Nat.{ℕ, _+_, _-_, _*_, _^_, _≤_, _<_}
 use native.Mathlib.Nat.{le-trans}
 use native.Mathlib.Omega.{arith}
 use mir.Facts.{fits-widen}
-use lib.ListN.{length, getD, take, drop}
+use lib.ListN.{length, getD, take, drop, length-take}
 use Rattle.segment.proofs.Cut.{truncated-padded}
 use Rattle.seglog.specs.declared.Log.{Log}
 use Rattle.segment.specs.declared.Segment.{Segment}
@@ -19,10 +19,9 @@ use Rattle.seglog_prune.specs.declared.Early.the-variants.{Onward}
 use Rattle.lists.specs.Outcome.{done}
 use Rattle.seglog_prune.specs.Cut.{findCut, cutOf}
 use Rattle.seglog_prune.specs.Prune.{pruneAnswer, pruneArea}
-use Rattle.seglog_prune.proofs.Bounds.{last-fits, last-below, slot-fits, part-fits, part-within, start-first, take-within}
+use Rattle.lists.proofs.Bounds.{entry-fits, left-below, part-first, part-size, part-within, part-start-fits, part-end-fits}
 use Rattle.seglog_prune.proofs.Cut.{cut-within}
 use Rattle.seglog_prune.proofs.Decide.{early-inner, plain-few, fits-plain}
-use Rattle.seglog_prune.proofs.PruneInside.{area-small}
 use Rattle.seglog_prune.proofs.Prune.{
   earlyLog,
   recent-settled,
@@ -102,8 +101,8 @@ module _ (c : tie.After-remaining) where
   inside : head-of c .slot * log-of c .c + log-of c .c ≤ length (area-of c)
   inside = head-inside _ _ _ _ (staying-of c)
 
-  small : length (area-of c) ≤ 137438953472
-  small = area-small _ _ _ (range _ _ _ _ (staying-of c))
+  small : length (area-of c) < 2 ^ 64
+  small = omega (arith, start-of c .good)
 
   pages : SizesObey (log-of c .k) (log-of c .c) (log-of c .m)
   pages = range _ _ _ _ (staying-of c) .fit .sizes
@@ -113,13 +112,13 @@ module _ (c : tie.After-remaining) where
       (drop (head-of c .slot * log-of c .c) (area-of c))
       ≡ imageIn (area-of c) (log-of c .c) (head-of c)
   image-is = ap (λ (k : ℕ). take k (drop (head-of c .slot * log-of c .c) (area-of c)))
-      (front (head-of c .slot * log-of c .c) (head-of c .size))
-    where
-      front : (a b : ℕ) → a + b - a ≡ b
-      front a b = omega arith
+      (part-size (head-of c .slot * log-of c .c) (head-of c .size))
 
   image-small : length (imageIn (area-of c) (log-of c .c) (head-of c)) ≤ log-of c .c
   image-small = take-within (head-of c .size) (drop (head-of c .slot * log-of c .c) (area-of c)) (good .size)
+    where
+      take-within : (b : ℕ) (l : List ℕ) {n : ℕ} → b ≤ n → length (take b l) ≤ n
+      take-within b l h = omega (arith, length-take b l)
 
 -- what the search answers is what is found in the image
 found : (c : tie.After-find-cut) → let r = left-at c in
@@ -156,25 +155,25 @@ sub-head : tie.Need-sub-head
 sub-head c = some c
 
 mul-head : tie.Need-mul-head
-mul-head c = last-fits (few c)
+mul-head c = entry-fits (left-below (some c) (few c))
 
 array-copy-out-head : tie.Need-array-copy-out-head
-array-copy-out-head c = last-below (few c) (some c)
+array-copy-out-head c = left-below (some c) (few c)
 
 cast-from : tie.Need-cast-from
 cast-from c = fits-widen tt (c .struct-known .given .1 .0)
 
 mul-from : tie.Need-mul-from
-mul-from c = let r = c .before .before .before in slot-fits _ _ (inside r) (small r)
+mul-from c = let r = c .before .before .before in part-start-fits _ _ (inside r) (small r)
 
 add-to : tie.Need-add-to
-add-to c = let r = c .before .before .before in part-fits _ _ _ (inside r) (small r) (good r .size)
+add-to c = let r = c .before .before .before in part-end-fits _ _ (part-within _ _ _ (inside r) (good r .size)) (small r)
 
 sub-find-cut : tie.Need-sub-find-cut
-sub-find-cut c = start-first _ _
+sub-find-cut c = part-first _ _
 
 part-find-cut-start : tie.Need-part-find-cut-start
-part-find-cut-start c = start-first _ _
+part-find-cut-start c = part-first _ _
 
 part-find-cut-end : tie.Need-part-find-cut-end
 part-find-cut-end c = let part = c .before in let r = part .before .before .before in part-within _ _ _ (inside r) (good r .size)
@@ -208,7 +207,8 @@ returns-3 c =
     let x = told .before .end .given .0 .0 in
     let padded = truncated-padded (area-of r) (log-of r .c) x (head-of r) (inside r) (cut-small told) in (
       ap accepted (c .ended .ensures) ∙ recent-answer (log-of r) (area-of r) (end-of r) (left-of r) (staying-of r) x (cut-of told),
-      c .before .before .before .truncate .ensures ∙ padded ∙ recent-area (log-of r) (area-of r) (end-of r) (left-of r) (staying-of r) x (cut-of told),
+      c .before .before .before .truncate .ensures ∙ padded ∙ recent-area (log-of r) (area-of r) (end-of r) (left-of r) (staying-of r) x
+          (cut-of told),
     )
 
 pub prune-recent-spec : {M : Type 1} → statement M

@@ -19,16 +19,15 @@ module _ (l w : List ℕ) (from to : ℕ) (e : w ≡ take to l) where
 
 returns : tie.Need-returns
 returns c =
-    let a = c .before .before .before .before .args in
-    part-missing (a .bytes .now) (c .before .before .front .result .now) (a .from) (a .to) (c .before .before .front .ensures) (omega arith)
-
-sub-result : tie.Need-sub-result
-sub-result c = search needs
+    let cut = c .before .before in
+    let a = cut .before .before .args in
+    part-missing (a .bytes .now) (cut .front .result .now) (a .from) (a .to) (cut .front .ensures) (omega arith)
 
 returns-2 : tie.Need-returns-2
 returns-2 c =
-    let a = c .before .before .before .before .args in
-    part-there (a .bytes .now) (c .before .before .front .result .now) (a .from) (a .to) (c .before .before .front .ensures)
+    let cut = c .before .before in
+    let a = cut .before .before .args in
+    part-there (a .bytes .now) (cut .front .result .now) (a .from) (a .to) (cut .front .ensures)
 
 pub between-spec : {M : Type 1} → statement M
 between-spec =
@@ -37,7 +36,7 @@ between-spec =
     (λ c κs. search needs)
     (λ c. search needs)
     returns
-    sub-result
+    (λ c. search needs)
     (λ c. search needs)
     (λ c. search needs)
     returns-2)

@@ -1,7 +1,6 @@
 -- `walk::record_step` meets its contract: the header's answer, judged.
 -- Assumes nothing.
 use mathlib.Core.Path.{ap, _∙_}
-use borrow.Author.Needs.{needs}
 use Rattle.record.proofs.Record.{header-answer}
 use Rattle.walk.specs.Judging.{judgeOf}
 use Rattle.walk.proofs.record_step.Statement.{statement}

@@ -24,6 +24,10 @@ abbrev μ-loop : tie.MeasureT-loop
 abbrev start-of : tie.At-loop Inv-loop μ-loop → tie.Start Inv-loop μ-loop
 start-of c = c .before .before
 
+-- the turn, from behind its step
+abbrev turn-of : tie.After-known-told Inv-loop μ-loop → tie.Then1 Inv-loop μ-loop
+turn-of c = c .before .before .before .before
+
 -- the loop's test
 going : (c : tie.Then1 Inv-loop μ-loop)
     → let l = c .before .before in moreOf (l .loop .scan) (length (start-of l .args .img .now)) ≡ true
@@ -31,7 +35,7 @@ going c = sym (c .before .more .ensures) ∙ c .if1 .taken
 
 -- the step that went on
 stepped : (c : tie.After-known-told Inv-loop μ-loop)
-    → let l = c .before .before .before .before .before .before in let a = start-of l .args in
+    → let l = turn-of c .before .before in let a = start-of l .args in
     recordStep (a .img .now) (a .s) (a .e) (l .loop .scan) ≡ Next (c .before .step .given .0 .0)
 stepped c = sym (c .before .before .before .record-step .ensures) ∙ c .before .step .given .1
 
@@ -45,12 +49,12 @@ enum-known-step c = c .match .keys1
 
 loop-less : tie.Need-loop-less Inv-loop μ-loop
 loop-less c =
-    let th = c .before .before .before .before in
+    let th = turn-of c in
     omega (arith, more-inside _ _ (going th), step-moves _ _ _ _ _ _ (stepped c))
 
 loop-again : tie.Need-loop-again Inv-loop μ-loop
 loop-again c =
-    let th = c .before .before .before .before in
+    let th = turn-of c in
     th .before .before .loop .inv ∙ walk-more _ _ _ _ _ _ (going th) (stepped c)
 
 enum-known-step-2 : tie.Need-enum-known-step-2 Inv-loop μ-loop

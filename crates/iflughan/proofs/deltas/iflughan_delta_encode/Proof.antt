@@ -10,8 +10,9 @@ use Rattle.iflughan.proofs.deltas.iflughan_delta_encode.Tie as tie
 
 returns : tie.Need-returns
 returns c =
-    let e = c .before .before .before .encode in
-    let t = c .before .before .before .before .before in
+    let encoded = c .before .before .before in
+    let e = encoded .encode in
+    let t = encoded .before .before in
     let d = t .before .before .before .args in
     let it = t .table-in .ensures in (
       c .written-delta .ensures ∙ ap writtenDelta (e .ensures .0)

@@ -7,10 +7,10 @@ use lib.ListN.{length, take, length-set}
 use native.Mathlib.Omega.{arith}
 use borrow.Author.Needs.{needs}
 use Rattle.lists.proofs.Arrays.{unmapped}
-use Rattle.delta.proofs.Placing.{keys-turn}
+use Rattle.delta.proofs.TablePlacing.{keys-turn}
 use Rattle.iflughan.specs.Deltas.{rowIn}
 use Rattle.iflughan.specs.declared.DeltaRow.{DeltaRow}
-use Rattle.iflughan.proofs.Rows.{all-rows}
+use Rattle.iflughan.proofs.DeltasRows.{all-rows}
 use Rattle.iflughan.proofs.deltas.table_in.Statement.{statement}
 use Rattle.iflughan.proofs.deltas.table_in.Tie as tie
 
@@ -26,9 +26,13 @@ loop-holds c = (omega arith, search (needs, unmapped), refl, refl)
 abbrev nothing : DeltaRow
 nothing = record { key = []; present = 0; reserved = []; offset = 0; length = 0; «reserved_too» = 0 }
 
+-- the turn, from its end
+abbrev turn-of : tie.After-struct-known Inv-loop μ-loop → tie.At-loop Inv-loop μ-loop
+turn-of c = c .before .before .before .before
+
 loop-again : tie.Need-loop-again Inv-loop μ-loop
 loop-again c =
-    let b = c .before .before .before .before in
+    let b = turn-of c in
     let a = b .before .args in (
       omega arith,
       b .loop .inv .1,

@@ -8,10 +8,10 @@ use native.Mathlib.Omega.{arith}
 use borrow.Author.Needs.{needs}
 use Rattle.lists.proofs.Arrays.{unmapped}
 use Rattle.delta.specs.Table.{erased}
-use Rattle.delta.proofs.Placing.{keys-turn}
+use Rattle.delta.proofs.TablePlacing.{keys-turn}
 use Rattle.iflughan.specs.Deltas.{rowOut}
 use Rattle.iflughan.specs.declared.DeltaRow.{DeltaRow}
-use Rattle.iflughan.proofs.Rows.{all-rows}
+use Rattle.iflughan.proofs.DeltasRows.{all-rows}
 use Rattle.iflughan.proofs.deltas.table_out.Statement.{statement}
 use Rattle.iflughan.proofs.deltas.table_out.Tie as tie
 
@@ -25,9 +25,13 @@ abbrev μ-loop : tie.MeasureT-loop
 loop-holds : tie.Need-loop-holds Inv-loop μ-loop
 loop-holds c = (omega arith, search (needs, unmapped), refl, refl, refl)
 
+-- the turn, from its end
+abbrev turn-of : tie.After-mark Inv-loop μ-loop → tie.At-loop Inv-loop μ-loop
+turn-of c = c .before .before .before .before
+
 loop-again : tie.Need-loop-again Inv-loop μ-loop
 loop-again c =
-    let b = c .before .before .before .before in
+    let b = turn-of c in
     let a = b .before .args in
     let n = b .loop .i in
     let x = getD (a .t1 .rows) n (erased []) in

@@ -5,7 +5,7 @@ use borrow.Author.Needs.{needs}
 use Rattle.payload.specs.Row.{rowNumber, rowQuestion, GoodRow}
 use Rattle.payload.proofs.Row.{row-refused, row-good}
 use Rattle.iflughan.specs.Recover.{noPart, partOf}
-use Rattle.iflughan.proofs.Place.{part-other}
+use Rattle.iflughan.proofs.RecoverPlace.{part-other}
 use Rattle.iflughan.proofs.recover.iflughan_payload.Statement.{statement}
 use Rattle.iflughan.proofs.recover.iflughan_payload.Tie as tie
 
@@ -21,8 +21,9 @@ good c = row-good _ _ _ _ _ (zero c)
 
 returns : tie.Need-returns
 returns c =
-    let q = c .before .before .row-question in
-    let a = c .before .before .before .before .args in
+    let asked = c .before .before in
+    let q = asked .row-question in
+    let a = asked .before .before .args in
     ap noPart (c .row-number .ensures ∙ q .ensures)
     ∙ sym (part-other (a .log) (a .slot) (a .offset) (a .length) _
     (λ h. row-refused (q .result) (c .before .match .keys2) (q .ensures ∙ h)))

@@ -49,7 +49,7 @@ use Rattle.iflughan.specs.declared.Recovered.{Recovered}
 use Rattle.image_rows.specs.Rows.{rowsOf, listedOf}
 use Rattle.recovery.specs.Recovery.{Recovery, recoveryOf}
 use Rattle.iflughan.specs.Recover.{Recovers}
-use Rattle.recovery.proofs.Read.{read-same}
+use Rattle.recovery.proofs.RecoveryRows.{read-same}
 use Rattle.image_rows.proofs.Rows as T
 use Rattle.image_rows.proofs.Rows.Laws as T′
 use Rattle.iflughan.proofs.Recovered as Q

@@ -7,17 +7,20 @@ use native.Mathlib.Omega.{arith}
 use lib.ListN.{length, take, length-take}
 use borrow.Author.Needs.{needs}
 use Rattle.segment.specs.declared.Segment.{Segment}
-use Rattle.recovery.specs.Recovery.{keptOf}
-use Rattle.recovery.proofs.Keep.{kept-few, close-did}
+use Rattle.recovery.specs.Keeping.{keptOf}
+use Rattle.recovery.proofs.Keeping.{kept-few, close-did}
 use Rattle.recovery.proofs.kept.close.Statement.{statement}
 use Rattle.recovery.proofs.kept.close.Tie as tie
 
--- where the function begins, and where the segments were kept
+-- where the function begins, where the image was cut, and where the segments were kept
 abbrev start-of : tie.After-keep → tie.Start
 start-of c = c .before .before .before
 
+abbrev cut-of : tie.After-ended-at → tie.After-truncate
+cut-of c = c .before .before .before .before
+
 abbrev keep-of : tie.After-ended-at → tie.After-keep
-keep-of c = c .before .before .before .before .before .before .before
+keep-of c = cut-of c .before .before .before
 
 -- the kept segments
 abbrev gs-of : tie.After-keep → List Segment
@@ -63,7 +66,7 @@ returns : tie.Need-returns
 returns c =
     let k = keep-of c in
     close-did _ _ _ _ _ _ _ _ (gs-of k) _ (k .keep .ensures) (start-of k .pre) _ _ (c .ended-at .ensures)
-    (c .before .before .before .before .truncate .ensures)
+    (cut-of c .truncate .ensures)
 
 pub close-spec : {M : Type 1} → statement M
 close-spec =

@@ -1,7 +1,7 @@
 -- `recovery::kept::holds_live` meets its contract: the two tests, joined.
 -- Assumes nothing.
 use borrow.Author.Needs.{needs}
-use Rattle.recovery.specs.Recovery.{holdsLive}
+use Rattle.recovery.specs.Keeping.{holdsLive}
 use Rattle.recovery.proofs.kept.holds_live.Statement.{statement}
 use Rattle.recovery.proofs.kept.holds_live.Tie as tie
 

@@ -1,11 +1,11 @@
--- `recovery::kept::keep` meets its contract: by the laws of its loop in proofs/Keep.antt.
+-- `recovery::kept::keep` meets its contract: by the laws of its loop in proofs/Keeping.antt.
 -- Assumes nothing.
 use mathlib.Core.Path.{_≡_, refl, _∙_}
 use Prim.Native.Nat.{ℕ, _≤_, _-_}
 use native.Mathlib.Omega.{arith}
 use lib.ListN.{length, length-set}
 use borrow.Author.Needs.{needs}
-use Rattle.recovery.proofs.Keep.{AtKeep, keep-start, keep-turn, keep-end}
+use Rattle.recovery.proofs.Keeping.{AtKeep, keep-start, keep-turn, keep-end}
 use Rattle.recovery.proofs.kept.keep.Statement.{statement}
 use Rattle.recovery.proofs.kept.keep.Tie as tie
 
@@ -16,17 +16,21 @@ Inv-loop s e count segs kept₀ n₀ i₀ kept n i =
 abbrev μ-loop : tie.MeasureT-loop
 μ-loop s e count segs kept₀ n₀ i₀ kept n i = count - i
 
+-- the turn, from its end
+abbrev turn-of : tie.After-count-if Inv-loop μ-loop → tie.In-loop Inv-loop μ-loop
+turn-of c = c .before .before .before .before
+
 loop-holds : tie.Need-loop-holds Inv-loop μ-loop
 loop-holds c =
     (omega arith, c .before .pre, omega arith, search needs, refl, keep-start _ _ _ _ (c .no-segment .ensures))
 
 loop-again : tie.Need-loop-again Inv-loop μ-loop
 loop-again c =
-    let l = c .before .before .before .before .before .loop in
+    let l = turn-of c .before .loop in
     let at = keep-turn _ _ _ (l .kept) (l .n) (l .i) (c .before .before .holds-live .result) _ _ (l .inv .3)
-    (omega (arith, l .inv .1, c .before .before .before .before .loop-test .taken)) (l .inv .5)
+    (omega (arith, l .inv .1, turn-of c .loop-test .taken)) (l .inv .5)
     (c .before .before .holds-live .ensures) (c .before .segment-if .ensures) (c .count-if .ensures) in (
-      omega (arith, c .before .before .before .before .loop-test .taken),
+      omega (arith, turn-of c .loop-test .taken),
       l .inv .1,
       at .low,
       l .inv .3,

@@ -8,6 +8,7 @@ use mathlib.Core.List.{List}
 use mathlib.Core.Bool.{true}
 use Prim.Native.Nat.{ℕ, _+_, _-_, _*_, _^_, _≤_, _<_}
 use mir.Facts.{fits-widen}
+use lib.Dec.{lit≤}
 use lib.ListN.{length, take}
 use Rattle.lists.specs.Outcome.{refused}
 use Rattle.segment.specs.declared.ImageRow.{ImageRow}
@@ -19,8 +20,8 @@ use Rattle.walk.proofs.Walk.{walk-more, walk-end, walk-fault}
 use Rattle.recovery_walk.specs.Images.{images, rowAt, faultOf}
 use Rattle.recovery_walk.specs.Scan.{scannedOf, settledOf}
 use Rattle.recovery_walk.proofs.Images.{image-refused}
-use Rattle.recovery_walk.proofs.Bounds.{index-below, row-fits, segment-fits, index-fits, start-fits, end-fits, start-first}
-use Rattle.recovery_walk.proofs.Bounds.{index-falls, place-falls, fault-some}
+use Rattle.lists.proofs.Bounds.{index-below, index-falls, index-fits, entry-fits, part-first, part-start-fits, part-end-fits}
+use Rattle.recovery_walk.proofs.Bounds.{row-fits, place-falls, fault-some}
 use Rattle.recovery_walk.proofs.ImagesTurn.{AtImages, AtRecords, partOf, part-size, image-by-part, at-first, settled-bad}
 use Rattle.recovery_walk.proofs.ImagesTurn.{settled-good, turn-fault, turn-next}
 use Rattle.recovery_walk.proofs.first_pass.walk_images.Statement.{statement}
@@ -58,6 +59,9 @@ Entered = tie.After-known-told Inv-records μ-records Inv-images μ-images
 abbrev Lent : Type 0
 Lent = tie.After-img Inv-records μ-records Inv-images μ-images
 
+abbrev Stepped : Type 0
+Stepped = tie.After-record-step Inv-records μ-records Inv-images μ-images
+
 abbrev start-of : At-images → Start
 start-of im = im .before .before .before .before
 
@@ -72,6 +76,13 @@ entered-of le = le .before .before
 
 abbrev images-of : Lent → At-images
 images-of le = in-of (asked-of (entered-of le)) .before
+
+-- the turn of the records' loop, from behind its step; the lent image, from behind that loop
+abbrev records-of : Stepped → tie.At-records Inv-records μ-records Inv-images μ-images
+records-of rs = rs .before .before .before
+
+abbrev lent-of : tie.After-filled Inv-records μ-records Inv-images μ-images → Lent
+lent-of c = c .before .before .before .before
 
 -- the row at hand, the state at its image's front, and its image, as the code lends it
 abbrev row-of : At-images → ImageRow
@@ -121,7 +132,7 @@ going th = rw (len-at (th .before .before .before)) (sym (th .before .more .ensu
 
 -- the step that went on
 stepped : (c : tie.After-known-told2 Inv-records μ-records Inv-images μ-images)
-    → let re = c .before .before .before .before .before .before in let a = start-of (images-of (re .before)) .args in
+    → let re = records-of (c .before .before .before) in let a = start-of (images-of (re .before)) .args in
     recordStep (img-of (re .before)) (a .s) (a .e) (re .records .scan) ≡ Next (c .before .step .given .0 .0)
 stepped c = sym (c .before .before .before .record-step .ensures) ∙ c .before .step .given .1
 
@@ -147,24 +158,24 @@ left-entry nu =
 
 -- at a record: its number
 fault-at : (nu : tie.After-number2 Inv-records μ-records Inv-images μ-images)
-    → let re = nu .before .before .before .before .before .before in let a = start-of (images-of (re .before)) .args in
+    → let re = records-of (nu .before .before .before) in let a = start-of (images-of (re .before)) .args in
     recordStep (img-of (re .before)) (a .s) (a .e) (re .records .scan) ≡ Fault (nu .number2 .result)
 fault-at nu =
     let told = nu .before .enum-told2 .given .1 in
     sym (nu .before .before .before .record-step .ensures) ∙ told ∙ ap Fault (sym (nu .number2 .ensures ∙ ap faultOf told))
 
 left-fault : (nu : tie.After-number2 Inv-records μ-records Inv-images μ-images)
-    → let im = images-of (nu .before .before .before .before .before .before .before) in let a = start-of im .args in
+    → let im = images-of (records-of (nu .before .before .before) .before) in let a = start-of im .args in
     refused (nu .number2 .result) ≡ images (a .area .now) (a .c) (a .s) (a .e) (take (a .count) (a .t4)) startOf
 left-fault nu =
-    let th = nu .before .before .before .before in
-    let re = th .before .before in
+    let rs = nu .before .before .before in
+    let re = records-of rs in
     let le = re .before in
     let im = images-of le in
     let st = start-of im in
     turn-fault _ _ _ _ _ _ (st .pre .few) (length-at st) _ _ _ _ (im .images .inv) (more-at le) _ _
     (image-by-part _ _ _ _ _ _ _ _ (front-at (entered-of le))
-    (re .records .inv .so-far ∙ walk-fault _ _ _ _ _ _ (going th) (fault-at nu)))
+    (re .records .inv .so-far ∙ walk-fault _ _ _ _ _ _ (going (rs .before)) (fault-at nu)))
 
 -- the join of the three ways
 left-at : (le : tie.Left-images Inv-records μ-records Inv-images μ-images)
@@ -228,7 +239,7 @@ mul-row : tie.Need-mul-row Inv-records μ-records Inv-images μ-images
 mul-row c = row-fits (start-of (c .before) .pre .few) (c .images-test .taken)
 
 array-copy-out-row : tie.Need-array-copy-out-row Inv-records μ-records Inv-images μ-images
-array-copy-out-row c = index-below (start-of (c .before) .pre .few) (c .images-test .taken)
+array-copy-out-row c = index-below (c .images-test .taken) (start-of (c .before) .pre .few)
 
 enum-known-entry : tie.Need-enum-known-entry Inv-records μ-records Inv-images μ-images
 enum-known-entry c = c .match .keys1
@@ -240,16 +251,16 @@ cast-from : tie.Need-cast-from Inv-records μ-records Inv-images μ-images
 cast-from c = fits-widen tt (c .struct-known .given .1 .0)
 
 mul-from : tie.Need-mul-from Inv-records μ-records Inv-images μ-images
-mul-from c = start-fits _ _ (within-at (c .before)) (area-at (start-of (in-of (asked-of (c .before)) .before)))
+mul-from c = part-start-fits _ _ (within-at (c .before)) (area-at (start-of (in-of (asked-of (c .before)) .before)))
 
 add-img : tie.Need-add-img Inv-records μ-records Inv-images μ-images
-add-img c = end-fits _ _ (within-at (c .before)) (area-at (start-of (in-of (asked-of (c .before)) .before)))
+add-img c = part-end-fits _ _ (within-at (c .before)) (area-at (start-of (in-of (asked-of (c .before)) .before)))
 
 sub-img : tie.Need-sub-img Inv-records μ-records Inv-images μ-images
-sub-img c = start-first _ _
+sub-img c = part-first _ _
 
 part-img-start : tie.Need-part-img-start Inv-records μ-records Inv-images μ-images
-part-img-start c = start-first _ _
+part-img-start c = part-first _ _
 
 part-img-end : tie.Need-part-img-end Inv-records μ-records Inv-images μ-images
 part-img-end c = within-at (c .before)
@@ -265,31 +276,31 @@ enum-told-2 c = c .match2 .keys2
 
 records-less : tie.Need-records-less Inv-records μ-records Inv-images μ-images
 records-less c =
-    let th = c .before .before .before .before in
-    place-falls (more-inside _ _ (going th)) (step-moves _ _ _ _ _ _ (stepped c))
+    let rs = c .before .before .before in
+    place-falls (more-inside _ _ (going (rs .before))) (step-moves _ _ _ _ _ _ (stepped c))
 
 records-again : tie.Need-records-again Inv-records μ-records Inv-images μ-images
 records-again c =
-    let th = c .before .before .before .before in
-    let re = th .before .before in
+    let rs = c .before .before .before in
+    let re = records-of rs in
     record {
       calm = re .records .inv .calm;
-      so-far = re .records .inv .so-far ∙ walk-more _ _ _ _ _ _ (going th) (stepped c);
+      so-far = re .records .inv .so-far ∙ walk-more _ _ _ _ _ _ (going (rs .before)) (stepped c);
     }
 
 mul-segs : tie.Need-mul-segs Inv-records μ-records Inv-images μ-images
 mul-segs c =
-    let le = c .before .before .before .before in segment-fits (start-of (images-of le) .pre .few) (more-at le)
+    let le = lent-of c in entry-fits (index-below (more-at le) (start-of (images-of le) .pre .few))
 
 array-set-from-segs : tie.Need-array-set-from-segs Inv-records μ-records Inv-images μ-images
 array-set-from-segs c =
-    let le = c .before .before .before .before in index-below (start-of (images-of le) .pre .few) (more-at le)
+    let le = lent-of c in index-below (more-at le) (start-of (images-of le) .pre .few)
 
 add-i : tie.Need-add-i Inv-records μ-records Inv-images μ-images
-add-i c = let le = c .before .before .before .before in index-fits (start-of (images-of le) .pre .few) (more-at le)
+add-i c = let le = lent-of c in index-fits (index-below (more-at le) (start-of (images-of le) .pre .few)) (lit≤ tt)
 
 images-less : tie.Need-images-less Inv-records μ-records Inv-images μ-images
-images-less c = index-falls (more-at (c .before .before .before .before))
+images-less c = index-falls (more-at (lent-of c))
 
 images-again : tie.Need-images-again Inv-records μ-records Inv-images μ-images
 images-again c =

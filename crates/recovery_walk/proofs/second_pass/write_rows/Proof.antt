@@ -9,6 +9,7 @@ use mathlib.Core.Bool.{true}
 use Prim.Native.Nat.{ℕ, _+_, _-_, _*_, _^_, _≤_, _<_}
 use native.Mathlib.Nat.{le-refl}
 use mir.Facts.{fits-widen}
+use lib.Dec.{lit≤}
 use lib.ListN.{length}
 use Rattle.segment.specs.declared.ImageRow.{ImageRow}
 use Rattle.walk.specs.declared.Step.the-variants.{Next}
@@ -16,8 +17,8 @@ use Rattle.walk.specs.Judging.{recordStep, moreOf}
 use Rattle.recovery_walk.specs.Images.{rowAt}
 use Rattle.recovery_walk.specs.Rows.{rowOf}
 use Rattle.walk.proofs.Judging.{more-inside, step-moves}
-use Rattle.recovery_walk.proofs.Bounds.{index-below, row-fits, index-fits, start-fits, end-fits, start-first}
-use Rattle.recovery_walk.proofs.Bounds.{still-room, index-falls, place-falls}
+use Rattle.lists.proofs.Bounds.{index-below, index-falls, index-fits, part-first, part-start-fits, part-end-fits}
+use Rattle.recovery_walk.proofs.Bounds.{row-fits, still-room, place-falls}
 use Rattle.recovery_walk.proofs.Rows.{rows-end, rows-fault}
 use Rattle.recovery_walk.proofs.ImagesTurn.{partOf, part-size}
 use Rattle.recovery_walk.proofs.RowsTurn.{AtRows, AtAll, row-room, row-next, image-room, rows-done, image-next}
@@ -63,6 +64,13 @@ row-at op = op .before .before
 abbrev images-of : Opened → At-images
 images-of op = row-at op .before .before .before
 
+-- the turn of the records' loop, from behind its step; the step, from behind its row
+abbrev turn-of : Told → tie.Then1 Inv-records μ-records Inv-images μ-images
+turn-of kt = kt .before .before .before .before
+
+abbrev told-of : tie.After-put-live Inv-records μ-records Inv-images μ-images → Told
+told-of pl = pl .before .before .before
+
 -- the row at hand and its image, as the code lends it
 abbrev row-of : At-images → ImageRow
 row-of im = rowAt (start-of im .args .t4) (im .images .i)
@@ -96,18 +104,18 @@ going th = rw (len-at (th .before .before .before)) (sym (th .before .more .ensu
 
 -- the step that went on
 stepped : (c : Told)
-    → let re = c .before .before .before .before .before .before in let a = start-of (images-of (re .before)) .args in
+    → let re = turn-of c .before .before in let a = start-of (images-of (re .before)) .args in
     recordStep (img-of (re .before)) (a .s) (a .e) (re .records .scan) ≡ Next (c .before .step .given .0 .0)
 stepped c = sym (c .before .before .before .record-step .ensures) ∙ c .before .step .given .1
 
 -- there is room for its row
 room-at : (c : tie.After-put-live-arg Inv-records μ-records Inv-images μ-images)
-    → let kt = c .before .before in let re = kt .before .before .before .before .before .before in let d = kt .before .step .given .0 .0 in
+    → let kt = c .before .before in let re = turn-of kt .before .before in let d = kt .before .step .given .0 .0 in
     re .records .at + length (rowOf (c .before .is-live .result) (d .last) (row-of (images-of (re .before)) .slot) (d .body) (d .len))
     ≤ length (re .records .index)
 room-at c =
     let kt = c .before .before in
-    let th = kt .before .before .before .before in
+    let th = turn-of kt in
     let re = th .before .before in
     let op = re .before in
     let im = images-of op in
@@ -131,22 +139,22 @@ mul-row : tie.Need-mul-row Inv-records μ-records Inv-images μ-images
 mul-row c = row-fits (start-of (c .before) .pre .0 .few) (c .images-test .taken)
 
 array-copy-out-row : tie.Need-array-copy-out-row Inv-records μ-records Inv-images μ-images
-array-copy-out-row c = index-below (start-of (c .before) .pre .0 .few) (c .images-test .taken)
+array-copy-out-row c = index-below (c .images-test .taken) (start-of (c .before) .pre .0 .few)
 
 cast-from : tie.Need-cast-from Inv-records μ-records Inv-images μ-images
 cast-from c = fits-widen tt (c .struct-known .given .1 .0)
 
 mul-from : tie.Need-mul-from Inv-records μ-records Inv-images μ-images
-mul-from c = start-fits _ _ (within-at c) (area-at (start-of (c .before .before .before)))
+mul-from c = part-start-fits _ _ (within-at c) (area-at (start-of (c .before .before .before)))
 
 add-img : tie.Need-add-img Inv-records μ-records Inv-images μ-images
-add-img c = end-fits _ _ (within-at c) (area-at (start-of (c .before .before .before)))
+add-img c = part-end-fits _ _ (within-at c) (area-at (start-of (c .before .before .before)))
 
 sub-img : tie.Need-sub-img Inv-records μ-records Inv-images μ-images
-sub-img c = start-first _ _
+sub-img c = part-first _ _
 
 part-img-start : tie.Need-part-img-start Inv-records μ-records Inv-images μ-images
-part-img-start c = start-first _ _
+part-img-start c = part-first _ _
 
 part-img-end : tie.Need-part-img-end Inv-records μ-records Inv-images μ-images
 part-img-end c = within-at c
@@ -173,21 +181,21 @@ put-live-requires c κs = room-at c
 
 records-less : tie.Need-records-less Inv-records μ-records Inv-images μ-images
 records-less c =
-    let kt = c .before .before .before .before .before in
-    place-falls (more-inside _ _ (going (kt .before .before .before .before))) (step-moves _ _ _ _ _ _ (stepped kt))
+    let kt = told-of (c .before .before) in
+    place-falls (more-inside _ _ (going (turn-of kt))) (step-moves _ _ _ _ _ _ (stepped kt))
 
 records-again : tie.Need-records-again Inv-records μ-records Inv-images μ-images
 records-again c =
     let pl = c .before .before in
-    let kt = pl .before .before .before in
-    let th = kt .before .before .before .before in
+    let kt = told-of pl in
+    let th = turn-of kt in
     row-next _ _ _ _ _ _ _ _ _ _ (th .before .before .records .inv) _ (going th) (stepped kt) _ (pl .before .before .is-live .ensures)
     _ _ (room-at (pl .before)) (pl .put-live .ensures)
 
 add-i : tie.Need-add-i Inv-records μ-records Inv-images μ-images
 add-i c =
     let op = c .before .before .before in
-    index-fits (start-of (images-of op) .pre .0 .few) (row-at op .before .before .images-test .taken)
+    index-fits (index-below (row-at op .before .before .images-test .taken) (start-of (images-of op) .pre .0 .few)) (lit≤ tt)
 
 images-less : tie.Need-images-less Inv-records μ-records Inv-images μ-images
 images-less c = index-falls (row-at (c .before .before .before) .before .before .images-test .taken)

@@ -1,7 +1,5 @@
 -- `walk::parts::placed` meets its contract: sums below 2^32, and the padded end.
 -- Assumes nothing.
-use mathlib.Core.Path.{ap}
-use Prim.Native.Nat.{_+_}
 use borrow.Author.Needs.{needs}
 use Rattle.walk.proofs.parts.placed.Statement.{statement}
 use Rattle.walk.proofs.parts.placed.Tie as tie

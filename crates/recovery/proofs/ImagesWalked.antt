@@ -1,0 +1,323 @@
+-- What an accepted walk over any images tells: the records of each image go on from those before, whatever bytes the images hold; the
+-- images of size above 0 come first, and each gives a segment; where s and e are found; and where the record e ends.
+-- Assumes nothing.
+use mathlib.Core.Path.{_≡_, refl, sym, ap, subst, _∙_}
+use mathlib.Core.Bool.{Bool, true, false, _&&_, _||_}
+use mathlib.Core.List.{List, [], _∷_, _++_}
+use mathlib.Core.Logic.{_⊎_, inl, inr, ⊎-elim}
+use Prim.Native.Nat.{ℕ, _+_, _*_, _%_, _≤_, _<_}
+use native.Mathlib.Nat.{mul-le-mul-right, suc-mul}
+use native.Mathlib.Omega.{arith}
+use lib.ListN.{length}
+use lib.Dec.{ltb, leb, eqb, lit<}
+use borrow.Author.Tests.{eqb-true, eqb-false, eq-eqb, ne-eqb, ltb-true, ltb-false, leb-true, le-leb}
+use Rattle.lists.specs.Choice.{pick}
+use Rattle.lists.proofs.Bools.{and-both, both-ways}
+use Rattle.lists.proofs.Cases.{by-test}
+use Rattle.lists.proofs.Splice.{part-length}
+use Rattle.page.specs.Page.{paddedEnd}
+use Rattle.page.proofs.Page.{pad-ge, pad-least, pad-multiple}
+use Rattle.record.specs.Record.{headerAt}
+use Rattle.segment.specs.declared.Segment.{Segment}
+use Rattle.segment.specs.declared.ImageRow.{ImageRow}
+use Rattle.segment.specs.Segment.{imageOf}
+use Rattle.segment.specs.Chain.{Chain, InSlot}
+use Rattle.segment.proofs.Chain.{chain-le}
+use Rattle.walk.specs.declared.Scan.{Scan}
+use Rattle.walk.specs.declared.Step.the-variants.{Next}
+use Rattle.walk.specs.declared.Walked.the-variants.{Ended}
+use Rattle.walk.specs.Judging.{liveOf, cutOf, moreOf, gapOf, recordStep, advancedOf, openedOf}
+use Rattle.walk.specs.Walk.{walkOf}
+use Rattle.walk.proofs.Judging.{Follows, follows-is, went, more-over}
+use Rattle.walk.proofs.Walk.{walk-end, walk-keeps}
+use Rattle.recovery_walk.specs.Images.{walked, images, filledOf}
+use Rattle.recovery_walk.proofs.Images.{walked-same, first-walked}
+use Rattle.image_rows.specs.ImageRows.{rowsInside}
+use Rattle.image_rows.proofs.ImageRows.{IdsFrom}
+use Rattle.lists.specs.Each.{all}
+
+-- ---- the records of one image
+
+-- a padded end inside a slot of c bytes
+pub record HeadGood (c x : ℕ) : Type 0 where
+  pub some : 1 ≤ x
+  pub fits : x ≤ c
+  pub whole : x % 4096 ≡ 0
+
+-- what the records from the state w to the state d tell; `first` is the id of the first of them
+pub record Ran (c s e : ℕ) (w d : Scan) : Type 0 where
+  pub first : ℕ
+  pub follows : Follows (w .last) first
+  pub upto : first ≤ d .last
+  pub min : d .min ≡ pick (eqb (w .min) 0) first (w .min)
+  pub max : d .max ≡ d .last
+  pub start : w .«found_s» ≡ false → d .«found_s» ≡ true → (first ≤ s) × (s ≤ d .last)
+  pub end : w .«found_e» ≡ false → d .«found_e» ≡ true → (first ≤ e) × (e ≤ d .last)
+  pub head : (w .«found_e» ≡ true → HeadGood c (w .«end_of_e»)) → d .«found_e» ≡ true → HeadGood c (d .«end_of_e»)
+
+-- the record e is live, so its payload ends inside the image, and its padding inside the slot
+head-good : (c size s e end : ℕ) → size ≤ c → c % 4096 ≡ 0 → s ≤ e → 1 ≤ end → cutOf size s e e end ≡ false
+    → HeadGood c (paddedEnd 4096 end)
+unfolding cutOf liveOf
+head-good c size s e end in-slot whole order some cut =
+    let short : ltb size end ≡ false = simp (le-leb s e order, le-leb e e (omega arith)) at cut in
+    record {
+      some = omega (arith, pad-ge 4096 end (lit< tt));
+      fits = pad-least 4096 end (lit< tt) c whole (omega (arith, ltb-false size end short));
+      whole = pad-multiple 4096 end (lit< tt);
+    }
+
+-- a flag that a record set is that of the record
+set-here : (was now : Bool) (id x : ℕ) → now ≡ (was || eqb id x) → was ≡ false → now ≡ true → id ≡ x
+set-here true now id x e f t = both-ways true refl f
+set-here false now id x e f t = eqb-true id x (sym e ∙ t)
+
+-- a flag that no record set was set before
+set-before : (was now b : Bool) → now ≡ (was || b) → b ≡ false → now ≡ true → was ≡ true
+set-before true now b e f t = refl
+set-before false now b e f t = both-ways b (sym e ∙ t) f
+
+module _ (img : List ℕ) (c s e : ℕ) (in-slot : length img ≤ c) (whole : c % 4096 ≡ 0) (order : s ≤ e) where
+  -- one record
+  ran-one : (w d : Scan) → recordStep img s e w ≡ Next d → Ran c s e w d
+  unfolding advancedOf
+  ran-one w d m =
+      let g = went (length img) s e w (headerAt img (w .pos)) d m in
+      let id = g .id in
+      let end : ℕ = w .pos + 12 + g .len in
+      let last : d .last ≡ id = ap (λ (x : Scan). x .last) (g .to) in
+      record {
+        first = id;
+        follows = follows-is (w .last) id (g .follows);
+        upto = omega arith;
+        min = ap (λ (x : Scan). x .min) (g .to);
+        max = ap (λ (x : Scan). x .max) (g .to) ∙ sym last;
+        start = λ f t.
+            let here = set-here (w .«found_s») (d .«found_s») id s (ap (λ (x : Scan). x .«found_s») (g .to)) f t in
+            (omega arith, omega arith);
+        end = λ f t.
+            let here = set-here (w .«found_e») (d .«found_e») id e (ap (λ (x : Scan). x .«found_e») (g .to)) f t in
+            (omega arith, omega arith);
+        head = λ was t.
+            let at : d .«end_of_e» ≡ pick (eqb id e) (paddedEnd 4096 end) (w .«end_of_e») = ap (λ (x : Scan). x .«end_of_e») (g .to) in
+            by-test (eqb id e)
+            (λ q.
+            let here : id ≡ e = eqb-true id e q in
+            let cut : cutOf (length img) s e e end ≡ false = subst (λ (x : ℕ). cutOf (length img) s e x end ≡ false) here (g .whole) in
+            subst (HeadGood c) (sym (at ∙ ap (λ (b : Bool). pick b (paddedEnd 4096 end) (w .«end_of_e»)) q))
+            (head-good c (length img) s e end in-slot whole order (omega arith) cut))
+            (λ q.
+            let old = set-before (w .«found_e») (d .«found_e») (eqb id e) (ap (λ (x : Scan). x .«found_e») (g .to)) q t in
+            subst (HeadGood c) (sym (at ∙ ap (λ (b : Bool). pick b (paddedEnd 4096 end) (w .«end_of_e»)) q)) (was old));
+      }
+
+  -- some records, and some more
+  ran-join : (w d z : Scan) → Ran c s e w d → Ran c s e d z → Ran c s e w z
+  ran-join w d z p q =
+      let on : q .first ≡ d .last + 1 = q .follows .next (λ h. omega (arith, p .follows .some, p .upto)) in
+      let some = p .follows .some in
+      let up = p .upto in
+      let up′ = q .upto in
+      record {
+        first = p .first;
+        follows = p .follows;
+        upto = omega arith;
+        min = q .min
+            ∙ ap (λ (b : Bool). pick b (q .first) (d .min))
+            (ne-eqb (d .min) 0 (λ h. kept-min (eqb (w .min) 0) refl (sym (p .min) ∙ h) (p .follows .some))) ∙ p .min;
+        max = q .max;
+        start = λ f t.
+            by-test (d .«found_s»)
+            (λ b. let h = p .start f b in (h .0, omega (arith, h .1)))
+            (λ b. let h = q .start b t in (omega (arith, h .0), h .1));
+        end = λ f t.
+            by-test (d .«found_e»)
+            (λ b. let h = p .end f b in (h .0, omega (arith, h .1)))
+            (λ b. let h = q .end b t in (omega (arith, h .0), h .1));
+        head = λ was. q .head (p .head was);
+      }
+    where
+      kept-min : (b : Bool) → eqb (w .min) 0 ≡ b → pick b (p .first) (w .min) ≡ 0 → 0 < p .first → ⊥
+      kept-min true g h l = omega arith
+      kept-min false g h l = eqb-false (w .min) 0 g h
+
+  -- no record, at the image's end; or some
+  walk-ran : (w d : Scan) → walkOf img s e w ≡ Ended d → ((moreOf w (length img) ≡ false) × (w ≡ d)) ⊎ Ran c s e w d
+  walk-ran =
+      walk-keeps (length img) (headerAt img) s e (λ w d. ((moreOf w (length img) ≡ false) × (w ≡ d)) ⊎ Ran c s e w d)
+      (λ w d z h m on. inr
+      (⊎-elim (λ o. subst (Ran c s e w) (o .1) (ran-one w d m)) (λ o. ran-join w d z (ran-one w d m) o) on))
+      (λ w h. inl (h, refl))
+
+-- ---- the images
+
+-- segments that hold no record
+abbrev pub Empties : List Segment → Type 0
+Empties [] = Unit {0}
+Empties (g ∷ gs) = (g .max ≡ 0) × Empties gs
+
+-- what an accepted walk from the state w to the state d tells of its segments
+pub record Tells (k c s e i : ℕ) (w d : Scan) (gs : List Segment) : Type 0 where
+  pub b : ℕ
+  pub j : ℕ
+  pub ys : List Segment
+  pub zs : List Segment
+  pub follows : Follows (w .last) b
+  pub split : gs ≡ ys ++ zs
+  pub chain : Chain (InSlot k c) i b ys j (d .last + 1)
+  pub empty : Empties zs
+  pub start : w .«found_s» ≡ false → d .«found_s» ≡ true → (b ≤ s) × (s ≤ d .last)
+  pub end : w .«found_e» ≡ false → d .«found_e» ≡ true → (b ≤ e) × (e ≤ d .last)
+  pub head : (w .«found_e» ≡ true → HeadGood c (w .«end_of_e»)) → d .«found_e» ≡ true → HeadGood c (d .«end_of_e»)
+
+-- an id that follows the last one
+after-last : (last : ℕ) → Follows last (last + 1)
+after-last last = record { some = omega arith; next = λ h. refl }
+
+module _ (area : List ℕ) (k c s e : ℕ) (all : length area ≡ k * c) (whole : c % 4096 ≡ 0) (order : s ≤ e) where
+  -- a row's image has the row's size
+  image-long : (r : ImageRow) → r .slot < k → r .size ≤ c → length (imageOf area c r) ≡ r .size
+  image-long r h g =
+      part-length (r .slot * c) (r .size) area (omega (arith, mul-le-mul-right c h, suc-mul (r .slot) c))
+
+  -- behind an image of size 0 no record is read: what the states w and d have in common
+  pub record Quiet (w d : Scan) (gs : List Segment) : Type 0 where
+    pub empty : Empties gs
+    pub last : d .last ≡ w .last
+    pub start : d .«found_s» ≡ w .«found_s»
+    pub end : d .«found_e» ≡ w .«found_e»
+    pub head : d .«end_of_e» ≡ w .«end_of_e»
+
+  -- an image of size 0
+  no-record : (r : ImageRow) (w d : Scan) → r .slot < k → r .size ≤ c → r .size ≡ 0
+      → walkOf (imageOf area c r) s e (openedOf w (r .size)) ≡ Ended d → openedOf w (r .size) ≡ d
+  unfolding moreOf
+  no-record r w d h g z q =
+      let img : List ℕ = imageOf area c r in
+      let none : length img ≡ 0 = image-long r h g ∙ z in
+      let over : moreOf (openedOf w (r .size)) (length img) ≡ false = ap (λ (x : ℕ). ltb 0 x) none in
+      let same : Ended (openedOf w (r .size)) ≡ Ended d = sym (walk-end (length img) (headerAt img) s e (openedOf w (r .size)) over) ∙ q in
+      (cc)
+
+  quiet : (rs : List ImageRow) (w d : Scan) (gs : List Segment) → rowsInside k c rs ≡ true → w .gap ≡ true
+      → images area c s e rs w ≡ walked d gs → Quiet w d gs
+  unfolding images all gapOf
+  quiet [] w d gs h gap q =
+      let same = walked-same q in
+      record {
+        empty = subst Empties (same .1) tt;
+        last = sym (ap (λ (x : Scan). x .last) (same .0));
+        start = sym (ap (λ (x : Scan). x .«found_s») (same .0));
+        end = sym (ap (λ (x : Scan). x .«found_e») (same .0));
+        head = sym (ap (λ (x : Scan). x .«end_of_e») (same .0));
+      }
+  quiet (r ∷ rs) w d gs h gap q =
+      let f = first-walked area c s e r w rs d gs q in
+      let t = and-both (ltb (r .slot) k && leb (r .size) c) (rowsInside k c rs) h in
+      let u = and-both (ltb (r .slot) k) (leb (r .size) c) (t .0) in
+      let calm : ltb 0 (r .size) ≡ false = ap (λ (b : Bool). b && ltb 0 (r .size)) (sym gap) ∙ f .calm in
+      let none : r .size ≡ 0 = omega (arith, ltb-false 0 (r .size) calm) in
+      let same = no-record r w (f .state) (ltb-true (r .slot) k (u .0)) (leb-true (r .size) c (u .1)) none (f .ended) in
+      let more = quiet rs (f .state) d (f .later) (t .1) (sym (ap (λ (x : Scan). x .gap) same) ∙ eq-eqb (r .size) 0 none) (f .on) in
+      record {
+        empty = subst Empties (sym (f .segments)) (sym (ap (λ (x : Scan). x .max) same), more .empty);
+        last = more .last ∙ sym (ap (λ (x : Scan). x .last) same);
+        start = more .start ∙ sym (ap (λ (x : Scan). x .«found_s») same);
+        end = more .end ∙ sym (ap (λ (x : Scan). x .«found_e») same);
+        head = more .head ∙ sym (ap (λ (x : Scan). x .«end_of_e») same);
+      }
+
+  -- a walk that is accepted, from any state: first the images of size above 0, then those of size 0
+  pub images-tell : (rs : List ImageRow) (i : ℕ) (w d : Scan) (gs : List Segment) → rowsInside k c rs ≡ true → IdsFrom i rs
+      → images area c s e rs w ≡ walked d gs → Tells k c s e i w d gs
+  unfolding images all
+  images-tell [] i w d gs h ids q =
+      let same = walked-same q .0 in
+      record {
+        b = w .last + 1;
+        j = i;
+        ys = [];
+        zs = [];
+        follows = after-last (w .last);
+        split = sym (walked-same q .1);
+        chain = (refl, ap (λ (x : Scan). x .last + 1) same);
+        empty = tt;
+        start = λ f t. both-ways (w .«found_s») (ap (λ (x : Scan). x .«found_s») same ∙ t) f;
+        end = λ f t. both-ways (w .«found_e») (ap (λ (x : Scan). x .«found_e») same ∙ t) f;
+        head = λ was t. subst (HeadGood c) (ap (λ (x : Scan). x .«end_of_e») same) (was (ap (λ (x : Scan). x .«found_e») same ∙ t));
+      }
+  images-tell (r ∷ rs) i w d gs h ids q =
+      let f = first-walked area c s e r w rs d gs q in
+      let t = and-both (ltb (r .slot) k && leb (r .size) c) (rowsInside k c rs) h in
+      let u = and-both (ltb (r .slot) k) (leb (r .size) c) (t .0) in
+      let slot : r .slot < k = ltb-true (r .slot) k (u .0) in
+      let size : r .size ≤ c = leb-true (r .size) c (u .1) in
+      by-test (eqb (r .size) 0)
+      (λ z.
+      let same = no-record r w (f .state) slot size (eqb-true (r .size) 0 z) (f .ended) in
+      empty-first r w d gs (f .state) (f .later) same
+      (quiet rs (f .state) d (f .later) (t .1) (sym (ap (λ (x : Scan). x .gap) same) ∙ z) (f .on)) (f .segments))
+      (λ z.
+      filled-first r w d gs (f .state) (f .later) slot size (eqb-false (r .size) 0 z) (ids .0) (f .ended)
+      (images-tell rs (i + 1) (f .state) d (f .later) (t .1) (ids .1) (f .on)) (f .segments))
+    where
+      empty-first : (r : ImageRow) (w d : Scan) (gs : List Segment) (m : Scan) (later : List Segment) → openedOf w (r .size) ≡ m
+          → Quiet m d later → gs ≡ filledOf r m ∷ later → Tells k c s e i w d gs
+      empty-first r w d gs m later same o segs =
+          record {
+            b = w .last + 1;
+            j = i;
+            ys = [];
+            zs = gs;
+            follows = after-last (w .last);
+            split = refl;
+            chain = (refl, sym (ap (λ (x : ℕ). x + 1) (o .last ∙ sym (ap (λ (x : Scan). x .last) same))));
+            empty = subst Empties (sym segs) (sym (ap (λ (x : Scan). x .max) same), o .empty);
+            start = λ f t. both-ways (w .«found_s») (ap (λ (x : Scan). x .«found_s») same ∙ sym (o .start) ∙ t) f;
+            end = λ f t. both-ways (w .«found_e») (ap (λ (x : Scan). x .«found_e») same ∙ sym (o .end) ∙ t) f;
+            head = λ was t.
+                subst (HeadGood c) (ap (λ (x : Scan). x .«end_of_e») same ∙ sym (o .head))
+                (was (ap (λ (x : Scan). x .«found_e») same ∙ sym (o .end) ∙ t));
+          }
+
+      filled-first : (r : ImageRow) (w d : Scan) (gs : List Segment) (m : Scan) (later : List Segment) → r .slot < k → r .size ≤ c
+          → (r .size ≡ 0 → ⊥) → r .id ≡ i → walkOf (imageOf area c r) s e (openedOf w (r .size)) ≡ Ended m
+          → Tells k c s e (i + 1) m d later → gs ≡ filledOf r m ∷ later → Tells k c s e i w d gs
+      filled-first r w d gs m later slot size some id ended o segs =
+          let long = image-long r slot size in
+          let from : Scan = openedOf w (r .size) in
+          let ran : Ran c s e from m =
+          ⊎-elim (λ z. absurd (omega (arith, more-over from (length (imageOf area c r)) (z .0)))) (λ z. z)
+          (walk-ran (imageOf area c r) c s e (omega arith) whole order from m ended) in
+          let up = ran .upto in
+          let on : o .b ≡ m .last + 1 = o .follows .next (λ z. omega (arith, ran .follows .some)) in
+          let next : m .max + 1 ≡ o .b = ap (λ (x : ℕ). x + 1) (ran .max) ∙ sym on in
+          let far : m .last + 1 ≤ d .last + 1 =
+          omega (arith, on, chain-le (InSlot k c) (o .ys) (i + 1) (o .b) (o .j) (d .last + 1) (o .chain)) in
+          record {
+            b = ran .first;
+            j = o .j;
+            ys = filledOf r m ∷ o .ys;
+            zs = o .zs;
+            follows = ran .follows;
+            split = segs ∙ ap (λ (x : List Segment). filledOf r m ∷ x) (o .split);
+            chain = (
+              record {
+                id = id;
+                min = ran .min;
+                order = omega (arith, ran .max);
+                good = record { slot = slot; some = omega arith; size = size };
+              },
+              subst (λ (x : ℕ). Chain (InSlot k c) (i + 1) x (o .ys) (o .j) (d .last + 1)) (sym next) (o .chain),
+            );
+            empty = o .empty;
+            start = λ f t.
+                by-test (m .«found_s»)
+                (λ z. let y = ran .start f z in (y .0, omega (arith, y .1)))
+                (λ z. let y = o .start z t in (omega (arith, y .0), y .1));
+            end = λ f t.
+                by-test (m .«found_e»)
+                (λ z. let y = ran .end f z in (y .0, omega (arith, y .1)))
+                (λ z. let y = o .end z t in (omega (arith, y .0), y .1));
+            head = λ was. o .head (ran .head was);
+          }
