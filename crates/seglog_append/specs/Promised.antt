@@ -1,4 +1,4 @@
--- The statements that docs/PROMISES.md cites; proofs: Free.antt, Deciding.antt, Appending.antt and AppendShape.antt in proofs/.
+-- The statements that docs/PROMISES.md cites; proofs: DecidingFree.antt, Deciding.antt, Appending.antt and AppendingShape.antt in proofs/.
 -- `length (l .segs) ≡ 64` and an id below 2^32 are what the code's types say. Assumes nothing.
 use mathlib.Core.Path.{_≡_}
 use mathlib.Core.List.{List}
