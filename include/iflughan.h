@@ -210,7 +210,8 @@ iflughan_part iflughan_payload(iflughan_log log, const uint8_t *area, size_t are
  * length. Refuses with 30, 36. Later bytes of `out` stay. */
 iflughan_written iflughan_name_write(const uint8_t *prefix, size_t prefix_len, uint32_t id, uint8_t *out, size_t out_len);
 
-/* The segment id that a name says. Refuses with 30, 31, 32, 33, 34, 35, in this order. */
+/* The segment id that a name says: the one for which iflughan_name_write writes these bytes, and where none does, a refusal. So two
+ * names never say one id. Refuses with 30, 31, 32, 33, 34, 35, in this order. */
 iflughan_parsed iflughan_name_parse(const uint8_t *prefix, size_t prefix_len, const uint8_t *name, size_t name_len);
 
 /* The delta at the front of `input`: rows in ascending key order, offsets into `input`, and the bytes it takes; what follows is

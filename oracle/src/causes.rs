@@ -5,7 +5,13 @@
 use crate::calls::Shape;
 use crate::departures::*;
 use crate::log_cases::{ids_in, SegmentFile};
+use crate::original;
 use crate::original_log::OriginalLog;
+
+/// The original reads as this id a name that it would not write for it: a plus sign stands in the place of the first digit.
+pub fn of_plus_sign(prefix: &str, name: &str, id: u32) -> bool {
+    original::name_format(prefix, id) != name && name[prefix.len()..].starts_with(".+")
+}
 
 /// What made the original accept an append that ours refuses with this number, read off the log that it then has.
 pub fn of_append(number: u32, log: &OriginalLog, shape: Shape) -> bool {

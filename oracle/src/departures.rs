@@ -40,5 +40,6 @@ departures! {
     DELIVERS_FIRST "delivers-first" "the Rust hands records to its callback before it refuses; ours delivers nothing then";
     DELETES_FIRST "deletes-first" "the Rust deletes segments before it refuses; ours changes nothing then";
     STRAY_NAME "stray-name" "a file whose name only begins with the prefix stops the Rust's open; ours is given rows";
-    PLUS_NAME "plus-name" "a file named with a plus sign opens, and a later prune of the Rust fails with its live start moved";
+    PLUS_SIGN "plus-sign" "35: the Rust reads a plus sign and nine digits, which it would not write";
+    PLUS_FILE "plus-file" "a file named with a plus sign opens, and a later prune of the Rust fails with its live start moved; our parse refuses the name";
 }

@@ -2,13 +2,13 @@
 //! Compared: acceptance, number of the refusal, id, length, the bytes written and those that must stay.
 
 use crate::calls::NO_WRITTEN;
-use crate::departures::{EMPTY_PREFIX, NAME_BUFFER};
+use crate::departures::{EMPTY_PREFIX, NAME_BUFFER, PLUS_SIGN};
 use crate::ffi::{Parsed, Written};
 use crate::lent::Lent;
 use crate::name_cases::{grid_case, mutated_case, write_case};
 use crate::rng::Rng;
 use crate::table::{hex, Table};
-use crate::{calls, original};
+use crate::{calls, causes, original};
 
 pub fn run(size: u64, seed: u64) -> Table {
     let mut table = Table::new(format!("names, seed {}", seed));
@@ -64,7 +64,9 @@ fn compare_parse(table: &mut Table, prefix: &str, name: &str) {
     let (lent_prefix, lent_name) = (Lent::new(prefix.as_bytes(), 0x5A), Lent::new(name.as_bytes(), 0xA5));
     let answer = calls::name_parse(lent_prefix.content(), lent_name.content());
     let original = original::name_parse(prefix, name);
+    let plus = original.map_or(false, |id| causes::of_plus_sign(prefix, name, id));
     let expected = match original {
+        Ok(_) if plus => Parsed { refusal: 35, id: 0 },
         Ok(id) => Parsed { refusal: 0, id },
         Err(refusal) => Parsed { refusal, id: 0 },
     };
@@ -74,9 +76,9 @@ fn compare_parse(table: &mut Table, prefix: &str, name: &str) {
         });
     }
     match answer.refusal {
-        0 if name[prefix.len()..].starts_with(".+") => table.alike("parse: accepted, a plus sign and nine digits"),
         0 => table.alike("parse: accepted, ten digits"),
         30 => table.departs("parse: 30, the Rust panics", &EMPTY_PREFIX),
+        35 if plus => table.departs("parse: 35, the Rust reads a plus sign and nine digits", &PLUS_SIGN),
         number => table.alike(&format!("parse: {}", number)),
     }
 }

@@ -1,6 +1,7 @@
 //! Writes a sample of the original's answers over every class, a case a line, to be replayed without any Rust at hand.
 //! README.md has the format. It needs nothing of the proved code.
 
+use crate::causes;
 use crate::delta_cases::{draft, input, usual_draft};
 use crate::delta_model::{decode, sorted};
 use crate::name_cases::{id_of, mutated_case, PREFIXES};
@@ -69,12 +70,13 @@ fn written_name(sample: &mut Sample, rng: &mut Rng) {
 fn parsed_name(sample: &mut Sample, rng: &mut Rng) {
     let (prefix, name) = mutated_case(rng);
     let (departure, number, id) = match original::name_parse(&prefix, &name) {
+        Ok(id) if causes::of_plus_sign(&prefix, &name, id) => (35, 0, id),
         Ok(id) => (0, 0, id),
         Err(30) => (30, 30, 0),
         Err(number) => (0, number, 0),
     };
     let line = || format!("P {:02} {} {} {:02} {:08x}", departure, hex(prefix.as_bytes()), hex(name.as_bytes()), number, id);
-    sample.offer(format!("P {}", number), line);
+    sample.offer(format!("P {} {}", departure, number), line);
 }
 
 fn decoded_delta(sample: &mut Sample, rng: &mut Rng) {

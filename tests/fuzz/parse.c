@@ -1,4 +1,4 @@
-/* Fuzz driver for names: parsing accepts exactly the two ways in which an id can be written, and what is written reads back.
+/* Fuzz driver for names: parsing accepts exactly what writing some id gives, and what is written reads back.
  * Input: flags, length of the prefix (modulo 32), an id (4 bytes), length of the output; the prefix, then the name. */
 #include "iflughan.h"
 #include "lent.h"
@@ -30,6 +30,20 @@ static void write(const uint8_t *prefix, size_t length, uint32_t id, size_t room
     HOLD(back.refusal == 0 && back.id == id);
 }
 
+/* Whether a name of this many bytes is the one that this id writes. */
+static int written_by(const uint8_t *name, const uint8_t *prefix, size_t length, uint32_t id) {
+    char text[32];
+    snprintf(text, sizeof text, ".%010u.log", id);
+    return is(name, length + 15, prefix, length, text);
+}
+
+/* The id that ten bytes would spell if they were digits. */
+static uint32_t spelled(const uint8_t *ten) {
+    uint64_t id = 0;
+    for (int i = 0; i < 10; i++) id = id * 10 + (uint8_t)(ten[i] - '0');
+    return (uint32_t)id;
+}
+
 static void parse(const uint8_t *prefix, size_t length, const uint8_t *name, size_t name_length, int at_front) {
     uint8_t *given = lend(&lent_prefix, prefix, length, at_front), *read = lend(&lent_name, name, name_length, at_front);
     iflughan_parsed parsed = iflughan_name_parse(given, length, read, name_length);
@@ -37,13 +51,10 @@ static void parse(const uint8_t *prefix, size_t length, const uint8_t *name, siz
     mark(parsed.refusal, 0);
     if (parsed.refusal) {
         HOLD(30 <= parsed.refusal && parsed.refusal <= 35 && parsed.id == 0);
+        HOLD(!length || name_length != length + 15 || !written_by(name, prefix, length, spelled(name + length + 1)));
         return;
     }
-    char digits[32], plus[32];
-    snprintf(digits, sizeof digits, ".%010u.log", parsed.id);
-    snprintf(plus, sizeof plus, ".+%09u.log", parsed.id);
-    HOLD(is(name, name_length, prefix, length, digits) || is(name, name_length, prefix, length, plus));
-    HOLD(length > 0);
+    HOLD(length > 0 && name_length == length + 15 && written_by(name, prefix, length, parsed.id));
 }
 
 int LLVMFuzzerTestOneInput(const uint8_t *data, size_t size) {

@@ -138,7 +138,17 @@ pub fn name_parse(prefix: &[u8], name: &[u8]) -> Parsed {
     if wrong("parse_reads_past_its_name") {
         read_outside(name, false);
     }
-    right::name_parse(prefix, name)
+    let answer = right::name_parse(prefix, name);
+    if wrong("parse_takes_a_plus_sign") && answer.refusal == 35 {
+        return as_rust_reads(&name[prefix.len() + 1..name.len() - 4]).unwrap_or(answer);
+    }
+    answer
+}
+
+/// What `parse::<u32>` makes of the ten bytes.
+fn as_rust_reads(ten: &[u8]) -> Option<Parsed> {
+    let id = std::str::from_utf8(ten).ok()?.parse().ok()?;
+    Some(Parsed { refusal: 0, id })
 }
 
 pub fn delta_decode(input: &[u8]) -> Decoded {

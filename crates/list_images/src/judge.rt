@@ -40,11 +40,23 @@ fn fault(name: &[u8], why: &[u8]) -> Seen {
     }
 }
 
+// The same for a name that is no segment's, with document 01's number.
+fn no_segment(name: &[u8], number: u32) -> Seen {
+    say(name);
+    named(b": not a segment's name, refused with", number as u64);
+    say(b"\n");
+    Seen {
+        good: false,
+        row: no_row(),
+    }
+}
+
 // Judges line i by itself: its kind, its name, and whether its file can be read.
 fn by_itself(folder: &[u8], prefix: &[u8], line: &[u8], i: usize, limit: usize) -> Seen {
     let name = lines::name(line);
-    let Parsed::Id(id) = segment_filename::parse(prefix, name) else {
-        return fault(name, b"not a segment's name");
+    let answer = segment_filename::parse(prefix, name);
+    let Parsed::Id(id) = answer else {
+        return no_segment(name, segment_filename::parsed_number(answer));
     };
     if !lines::is_file(line) {
         return fault(name, b"not a file");
@@ -152,13 +164,13 @@ fn fits(rows: Rows, row: ImageRow, name: &[u8], limit: usize) -> bool {
     false
 }
 
-// Judges a row among the others: its segment id, and its size.
+// Judges a row among the others: its segment id, and its size. Two rows have one id only where a line stands twice: no two names do.
 fn belongs(rows: Rows, row: ImageRow, name: &[u8], limit: usize) -> bool {
     if row.id == 0 {
         return fault(name, b"segment 0, which no log has").good;
     }
     if times(rows, row.id) != 1 {
-        return fault(name, b"another file has the same segment's id").good;
+        return fault(name, b"named more than once").good;
     }
     if (row.id != lowest(rows)) & (times(rows, row.id - 1) == 0) {
         return fault(name, b"the segment before it is missing").good;

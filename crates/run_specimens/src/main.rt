@@ -1,4 +1,5 @@
-// Document 01's specimens but 4 and 13, and 13's last sentence: one line each, what was run and the value that document 01 says.
+// Document 01's specimens but 4 and 13, and 13's last sentence: one line each, what was run and the value that document 01 says (of 8, what
+// document 02's ask 3 says).
 // 13's three lines are run_specimen_13. A payload of 2^30 bytes and more is no local: the comparison lends specimen 4's
 // (oracle/src/logs.rs).
 mod deltas;

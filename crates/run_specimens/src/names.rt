@@ -2,7 +2,6 @@
 use crate::holds;
 use crate::say;
 use segment_filename::Formatted;
-use segment_filename::Parsed;
 
 // Writes the name of segment 1; its length.
 fn written() -> u64 {
@@ -17,13 +16,14 @@ fn written() -> u64 {
     n as u64
 }
 
-// The id, or the refusal's number.
-fn read(name: &[u8]) -> u64 {
-    let answer = segment_filename::parse(b"rollback", name);
-    let Parsed::Id(id) = answer else {
-        return segment_filename::parsed_number(answer) as u64;
-    };
-    id as u64
+// The id that a name is read as, 0 beside a refusal.
+fn id(name: &[u8]) -> u64 {
+    segment_filename::parsed_id(segment_filename::parse(b"rollback", name)) as u64
+}
+
+// The refusal's number of a name, 0 where it is read.
+fn refusal(name: &[u8]) -> u64 {
+    segment_filename::parsed_number(segment_filename::parse(b"rollback", name)) as u64
 }
 
 pub(crate) fn names() -> bool {
@@ -31,20 +31,20 @@ pub(crate) fn names() -> bool {
     let largest = holds(
         6,
         b"digits 4294967295 read as",
-        read(b"rollback.4294967295.log"),
+        id(b"rollback.4294967295.log"),
         4294967295,
     );
     let over = holds(
         7,
         b"digits 4294967296: refusal",
-        read(b"rollback.4294967296.log"),
+        refusal(b"rollback.4294967296.log"),
         35,
     );
     let plus = holds(
         8,
-        b"+000000001 reads as",
-        read(b"rollback.+000000001.log"),
-        1,
+        b"+000000001: refusal",
+        refusal(b"rollback.+000000001.log"),
+        35,
     );
     length & largest & over & plus
 }

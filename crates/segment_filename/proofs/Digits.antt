@@ -1,20 +1,18 @@
--- The laws of digits, over the number of places: how many there are, that they are digits, and that they read back.
+-- The laws of digits, over the number of places: how many there are, that they are digits, and that they read back, both ways.
 -- Assumes nothing.
 use mathlib.Core.Path.{_≡_, refl, sym, ap, _∙_}
 use mathlib.Core.Bool.{true, _&&_}
-use mathlib.Core.List.{List, [], _∷_, _++_, append-assoc}
+use mathlib.Core.List.{List, [], _∷_, _++_, append-assoc, append-nil}
 use Prim.Native.Nat.{ℕ, zero, suc, _+_, _-_, _*_, _/_, _%_, _^_, _≤_, _<_}
-use native.Mathlib.Nat.{pow-suc, pow-le-pow-right, lt-of-lt-of-le, div-lt-iff-lt-mul}
+use native.Mathlib.Nat.{add-zero, pow-suc, pow-le-pow-right, lt-of-lt-of-le, div-lt-iff-lt-mul}
 use native.Mathlib.Numerals.{add-one}
 use native.Mathlib.Omega.{arith}
 use lib.ListN.{length, getD, set, drop, length-set, length-append}
 use lib.Seq.{drop-cons, getD-set-same, drop-set-lt}
 use lib.Dec.{leb}
-use borrow.Author.Tests.{leb-true, le-leb, ne-eqb}
+use borrow.Author.Tests.{leb-true, le-leb}
 use Rattle.lists.proofs.Bools.{and-both}
-use Rattle.lists.proofs.Cases.{pick-either}
-use Rattle.segment_filename.specs.Words.{same, startsWith}
-use Rattle.segment_filename.specs.Digits.{digits, isDigit, allDigits, valueFrom, plus, signLength, unsigned}
+use Rattle.segment_filename.specs.Digits.{digits, isDigit, allDigits, valueFrom}
 
 -- one more digit, in front of those that are written
 pub digits-turn : (i v : ℕ) (bytes : List ℕ) → i < length bytes
@@ -31,11 +29,6 @@ pub digits-length : (n v : ℕ) → length (digits n v) ≡ n
 unfolding digits
 digits-length zero v = refl
 digits-length (suc n) v = length-append (digits n (v / 10)) ((48 + v % 10) ∷ []) ∙ rw (digits-length n (v / 10)) (omega arith)
-
--- at most one byte is a sign
-pub sign-short : (s : List ℕ) → signLength s ≤ 1
-unfolding signLength
-sign-short s = pick-either (λ n. n ≤ 1) (startsWith plus s) 1 0 (λ h. omega arith) (λ h. omega arith)
 
 module _ (s : List ℕ) (i : ℕ) (inside : i < length s) where
   next : drop i s ≡ getD s i 0 ∷ drop (i + 1) s
@@ -90,13 +83,27 @@ digits-value (suc n) v h =
     value-append 0 (digits n (v / 10)) ((48 + v % 10) ∷ [])
     ∙ rw (digits-value n (v / 10) (div-lt-iff-lt-mul (omega arith) .1 (rw pow-suc at h))) (omega arith)
 
--- digits have no sign
-pub digits-unsigned : (s : List ℕ) → allDigits s ≡ true → unsigned s ≡ s
-unfolding allDigits signLength startsWith same
-digits-unsigned [] h = refl
-digits-unsigned (b ∷ s) h =
+-- digits that are read on from a number v of n places: they are written behind those of v
+written-on : (n v : ℕ) (s : List ℕ) → allDigits s ≡ true → digits (n + length s) (valueFrom v s) ≡ digits n v ++ s
+unfolding digits allDigits valueFrom
+written-on n v [] h = rw add-zero (sym (append-nil (digits n v)))
+written-on n v (b ∷ s) h =
     let both = and-both (isDigit b) (allDigits s) h in
-    let range = digit-range b (both .0) in simp (ne-eqb b 43 (λ e. omega arith))
+    let range = digit-range b (both .0) in
+    let d : ℕ = b - 48 in
+    let front : (v * 10 + d) / 10 ≡ v = omega arith in
+    let last : 48 + (v * 10 + d) % 10 ≡ b = omega arith in
+    let places : n + suc (length s) ≡ suc n + length s = omega arith in
+    rw places
+    (written-on (suc n) (v * 10 + d) s (both .1)
+    ∙ rw (front, last) (append-assoc (digits n v) (b ∷ []) s))
+
+-- what is read from digits is written as these digits
+pub value-digits : (s : List ℕ) → allDigits s ≡ true → digits (length s) (valueFrom 0 s) ≡ s
+unfolding digits
+value-digits s h =
+    let places : length s ≡ 0 + length s = omega arith in
+    ap (λ (k : ℕ). digits k (valueFrom 0 s)) places ∙ written-on 0 0 s h
 
 -- two numbers with the same digits in n places are equal
 pub digits-injective : (n a b : ℕ) → a < 10 ^ n → b < 10 ^ n → digits n a ≡ digits n b → a ≡ b

@@ -3,4 +3,5 @@ pub mod Digits
 pub mod Formatting
 pub mod Parsing
 pub mod RoundTrip
+pub mod ParsingWritten
 pub mod Unique

@@ -13,12 +13,12 @@ use Rattle.lists.proofs.Cases.{by-order}
 use Rattle.lists.proofs.Outcome.{refused-is-not-done, done-injective}
 use Rattle.lists.proofs.Splice.{splice-inside, splice-behind}
 use Rattle.segment_filename.specs.Words.{startsWith, endsWith, behind, before}
-use Rattle.segment_filename.specs.Digits.{digits, valueFrom, unsigned, isU32, valueOf}
+use Rattle.segment_filename.specs.Digits.{digits, isU32, valueOf}
 use Rattle.segment_filename.specs.Formatting.{dot, suffix, nameOf, formatOf, formatInto}
 use Rattle.segment_filename.specs.Parsing.{withoutPrefix, withoutSuffix, idBytes, parseOf}
-use Rattle.segment_filename.specs.Promised.{FormatRoom, FormatLater, ParseFormat, FormatInjective}
+use Rattle.segment_filename.specs.Promised.{FormatRoom, FormatWritten, FormatLater, ParseFormat, FormatInjective}
 use Rattle.segment_filename.proofs.Words.{starts-append, behind-append, ends-append, before-append}
-use Rattle.segment_filename.proofs.Digits.{digits-length, digits-are-digits, digits-value, digits-unsigned, digits-injective}
+use Rattle.segment_filename.proofs.Digits.{digits-length, digits-are-digits, digits-value, digits-injective}
 use Rattle.segment_filename.proofs.Formatting.{name-length, format-refuses-30, format-refuses-36, format-accepts}
 use Rattle.segment_filename.proofs.Parsing.{parse-reads}
 
@@ -52,10 +52,8 @@ module _ (prefix : List ℕ) (id : ℕ) where
   -- the name of a segment is read as its id, for any prefix that isn't empty and any id of 32 bits
   pub parse-name : (length prefix ≡ 0 → ⊥) → id < 2 ^ 32 → parseOf prefix (nameOf prefix id) ≡ done id
   parse-name some small =
-      let whole : unsigned (digits 10 id) ≡ digits 10 id = digits-unsigned (digits 10 id) (digits-are-digits 10 id) in
-      let value : valueOf (digits 10 id) ≡ id = ap (valueFrom 0) whole ∙ digits-value 10 id (id-places id small) in
-      let good : isU32 (digits 10 id) ≡ true =
-      rw (value, le-leb id 4294967295 (omega arith)) (rw (whole, digits-are-digits 10 id) refl) in
+      let value : valueOf (digits 10 id) ≡ id = digits-value 10 id (id-places id small) in
+      let good : isU32 (digits 10 id) ≡ true = rw (value, le-leb id 4294967295 (omega arith), digits-are-digits 10 id) refl in
       parse-reads prefix (nameOf prefix id) some name-begins name-ends name-dotted (ap length name-digits ∙ digits-length 10 id)
       ∙ rw (name-digits, good, value) refl
 
@@ -88,11 +86,11 @@ module _ (prefix : List ℕ) (id : ℕ) (out : List ℕ) (n : ℕ) (accepted : f
   pub format-length : n ≡ length (nameOf prefix id)
   format-length = format-room prefix out n accepted .0 ∙ sym (name-length prefix id)
 
-  -- so many bytes of the buffer are the name
-  pub format-written : take n (formatInto prefix id out) ≡ nameOf prefix id
-  format-written =
-      rw (into, format-length)
-      (splice-inside 0 (nameOf prefix id) out (omega (arith, format-length, format-room prefix out n accepted .1)))
+pub format-written : FormatWritten
+format-written prefix id out n accepted =
+    let long = format-length prefix id out n accepted in
+    rw (into prefix id out n accepted, long)
+    (splice-inside 0 (nameOf prefix id) out (omega (arith, long, format-room prefix out n accepted .1)))
 
 pub format-later : FormatLater
 format-later prefix id out n accepted =

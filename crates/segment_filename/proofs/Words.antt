@@ -5,7 +5,7 @@ use mathlib.Core.Bool.{true, false}
 use mathlib.Core.List.{List, [], _∷_, _++_}
 use Prim.Native.Nat.{ℕ, _+_, _-_, _≤_, _<_}
 use native.Mathlib.Omega.{arith}
-use lib.ListN.{length, getD, take, drop, length-take, length-drop, length-append}
+use lib.ListN.{length, getD, take, drop, length-take, length-drop, length-append, take-append-drop}
 use lib.Seq.{ext-getD, getD-take, getD-drop, take-all, take-append-seam, drop-append-seam}
 use lib.Dec.{eqb}
 use borrow.Author.Tests.{eqb-true, eq-eqb}
@@ -81,6 +81,20 @@ module _ (s word : List ℕ) where
   pub ends-long : endsWith word s ≡ true → length word ≤ length s
   unfolding endsWith
   ends-long h = omega (arith, simp length-drop at (ap length (same-true (drop (length s - length word) s) word h)))
+
+  -- a list that begins with a word is the word and what is left behind it
+  pub starts-split : startsWith word s ≡ true → s ≡ word ++ behind word s
+  unfolding startsWith
+  starts-split h =
+      sym (take-append-drop (length word) s)
+      ∙ ap (λ (l : List ℕ). l ++ behind word s) (same-true (take (length word) s) word h)
+
+  -- a list that ends with a word is what is left before it and the word
+  pub ends-split : endsWith word s ≡ true → s ≡ before word s ++ word
+  unfolding endsWith
+  ends-split h =
+      sym (take-append-drop (length s - length word) s)
+      ∙ ap (λ (l : List ℕ). before word s ++ l) (same-true (drop (length s - length word) s) word h)
 
 -- a part up to the end is all that is left
 pub part-rest : (k : ℕ) (l : List ℕ) → part k (length l - k) l ≡ drop k l

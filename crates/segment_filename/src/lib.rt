@@ -1,11 +1,11 @@
-// Names of segment files: written and read on bytes, as the Rust's `format` and `parse` do.
+// Names of segment files, written and read on bytes: a name is read exactly where writing its id gives the same bytes.
 // Both are total: each refusal is an answer, and a refusal leaves the buffer as it was.
 ghost use mathlib.Core.Path.{_≡_};
 ghost use Prim.Native.Nat.{_≤_};
 ghost use lib.ListN.{length};
 ghost use Rattle.lists.specs.Splice.{part};
 ghost use Rattle.segment_filename.specs.Words.{same, endsWith};
-ghost use Rattle.segment_filename.specs.Digits.{digits, isDigit, signLength};
+ghost use Rattle.segment_filename.specs.Digits.{digits, isDigit};
 ghost use Rattle.segment_filename.specs.Formatting.{formatOutcome, formatNumber, formatLength, formatOf, formatInto};
 ghost use Rattle.segment_filename.specs.Parsing.{parseOutcome, parseNumber, parseId, u32Of, parseOf};
 
@@ -152,23 +152,13 @@ fn is_digit(b: u8) -> bool
     (b'0' <= b) & (b <= b'9')
 }
 
-// How many bytes of s are its sign: Rust's `parse` takes one plus sign.
-fn sign_length(s: &[u8]) -> usize
-    ensures { λ r. ⌜ r ≡ signLength (now (s .entry)) ⌝ }
-{
-    if matches_at(s, 0, b"+") {
-        return 1;
-    }
-    0
-}
-
-// The number of ten bytes, as Rust's `parse::<u32>` reads it.
+// The number that ten digits spell. Rust's `parse::<u32>` would take a plus sign for the first of them too.
 fn parse_u32(ten: &[u8]) -> Parsed
     requires { ⌜ length (now ten) ≡ 10 ⌝ }
     ensures { λ r. ⌜ parseOutcome r ≡ u32Of (now (ten .entry)) ⌝ }
 {
     let mut value: u64 = 0;
-    let mut i = sign_length(ten);
+    let mut i: usize = 0;
     while i < ten.len() {
         let b = ten[i];
         if !is_digit(b) {

@@ -8,7 +8,7 @@ use Rattle.page.proofs.Page.{pad-rounded}
 use Rattle.record.specs.Record.{recordRoom}
 use Rattle.little_endian.specs.LittleEndian.{leAt, leBytes, numberAt, u32At}
 use Rattle.segment_filename.specs.Words.{same, startsWith, endsWith}
-use Rattle.segment_filename.specs.Digits.{digits, allDigits, valueFrom, signLength}
+use Rattle.segment_filename.specs.Digits.{digits, allDigits, valueFrom}
 use Rattle.segment_filename.specs.Formatting.{nameOf, formatOf}
 use Rattle.segment_filename.specs.Parsing.{parseOf}
 use Rattle.keys.specs.Order.{compareKeys}
@@ -26,7 +26,7 @@ room n = pad-rounded 4096 (12 + n) (lit< tt)
 
 -- the table
 pub specimens : Specimens
-unfolding nameOf formatOf parseOf same startsWith endsWith digits allDigits valueFrom signLength leAt leBytes numberAt u32At compareKeys
+unfolding nameOf formatOf parseOf same startsWith endsWith digits allDigits valueFrom leAt leBytes numberAt u32At compareKeys
     any insert sort clash eraseAt reinstateAt group reinstates reading walk concat sum deltaBytes encodedOf splice
 specimens =
     record {

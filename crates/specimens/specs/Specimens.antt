@@ -1,4 +1,5 @@
--- Document 01's specimens marked P, a field for each, as equations between what the definitions give and what the paper says.
+-- Document 01's specimens marked P, a field for each, as equations between what the definitions give and what the paper says
+-- (specimen 8: what document 02's ask 3 makes of it).
 -- proofs/Specimens.antt proves them together. Assumes nothing.
 use mathlib.Core.Path.{_≡_}
 use mathlib.Core.List.{List, [], _∷_, _++_}
@@ -68,8 +69,8 @@ pub record Specimens : Type 0 where
   pub largest : parseOf rollback (named (near 53)) ≡ done 4294967295
   -- 7. 4294967296: 35
   pub too-large : parseOf rollback (named (near 54)) ≡ refused 35
-  -- 8. +000000001 reads as 1
-  pub plus-sign : parseOf rollback (named (43 ∷ nine)) ≡ done 1
+  -- 8. +000000001, as document 02 changes it: 35
+  pub plus-sign : parseOf rollback (named (43 ∷ nine)) ≡ refused 35
   -- 9. empty delta: eight zero bytes
   pub empty-encoded : bytesOf (tableOf []) [] ≡ replicate 8 0
   pub empty-decoded : decodedOf 256 (replicate 8 0) ≡ record { answer = done 8; table = tableOf [] }

@@ -1,21 +1,20 @@
 -- `segment_filename::parse_u32` meets its contract. The loop's invariant: what is left to read decides whether all are digits, and the
 -- number read so far goes on to the whole number. Assumes nothing.
-use mathlib.Core.Path.{_≡_, sym, ap, _∙_}
+use mathlib.Core.Path.{_≡_, refl, sym, ap, _∙_}
 use mathlib.Core.Bool.{Bool, true, _&&_}
 use mathlib.Core.List.{List, []}
 use Prim.Native.Nat.{ℕ, _≤_, _<_, _+_, _-_, _^_}
-use native.Mathlib.Nat.{one-le-pow}
 use native.Mathlib.Omega.{arith}
 use lib.ListN.{length, getD, drop, drop-of-length-le}
 use borrow.Author.Needs.{needs}
 use borrow.Author.Tests.{not-true, not-false, le-leb, lt-leb}
-use Rattle.segment_filename.specs.Digits.{isDigit, allDigits, valueFrom, unsigned, valueOf}
-use Rattle.segment_filename.proofs.Digits.{sign-short, digits-at, value-at, digit-range, value-room, places-small}
+use Rattle.segment_filename.specs.Digits.{isDigit, allDigits, valueFrom, valueOf}
+use Rattle.segment_filename.proofs.Digits.{digits-at, value-at, digit-range, value-room, places-small}
 use Rattle.segment_filename.proofs.parse_u32.Statement.{statement}
 use Rattle.segment_filename.proofs.parse_u32.Tie as tie
 
 abbrev Inv-loop : tie.InvT-loop
-Inv-loop ten value₀ i₀ value i = (i ≤ 10) × (value < 10 ^ i) × (allDigits (unsigned ten) ≡ allDigits (drop i ten))
+Inv-loop ten value₀ i₀ value i = (i ≤ 10) × (value < 10 ^ i) × (allDigits ten ≡ allDigits (drop i ten))
     × (valueOf ten ≡ valueFrom value (drop i ten))
 
 abbrev μ-loop : tie.MeasureT-loop
@@ -26,7 +25,7 @@ abbrev turn : tie.After-is-digit Inv-loop μ-loop → tie.At-loop Inv-loop μ-lo
 turn c = c .before .before .before
 
 abbrev ten-of : tie.At-loop Inv-loop μ-loop → List ℕ
-ten-of c = c .before .before .before .args .ten .now
+ten-of c = c .before .before .args .ten .now
 
 abbrev byte-of : tie.After-is-digit Inv-loop μ-loop → ℕ
 byte-of c = getD (ten-of (turn c)) (turn c .loop .i) 0
@@ -42,14 +41,7 @@ room c =
     let d = digit-range (byte-of (c .before)) (digit c) in (d .0, d .1, places-small (l .value) (l .i) (l .inv .1) (omega arith))
 
 loop-holds : tie.Need-loop-holds Inv-loop μ-loop
-loop-holds c =
-    let s = c .before .before .args .ten .now in
-    let sign = c .sign-length .ensures in (
-      omega (arith, sign-short s),
-      one-le-pow (c .sign-length .result) 10 (omega arith),
-      ap (λ (k : ℕ). allDigits (drop k s)) (sym sign),
-      ap (λ (k : ℕ). valueFrom 0 (drop k s)) (sym sign),
-    )
+loop-holds c = (omega arith, omega arith, refl, refl)
 
 returns : tie.Need-returns Inv-loop μ-loop
 returns c =
@@ -84,7 +76,7 @@ loop-again c =
 none-left : (c : tie.After-loop Inv-loop μ-loop) → drop (c .before .loop .i) (ten-of (c .before)) ≡ []
 none-left c = drop-of-length-le (ten-of (c .before)) {i = c .before .loop .i} (search needs)
 
-all-digits : (c : tie.After-loop Inv-loop μ-loop) → allDigits (unsigned (ten-of (c .before))) ≡ true
+all-digits : (c : tie.After-loop Inv-loop μ-loop) → allDigits (ten-of (c .before)) ≡ true
 unfolding allDigits
 all-digits c = c .before .loop .inv .2 ∙ ap allDigits (none-left c)
 
@@ -104,7 +96,6 @@ parse-u32-spec =
     (tie.spec
     Inv-loop
     μ-loop
-    (λ c κs. search needs)
     loop-holds
     (λ c. search needs)
     (λ c κs. search needs)
