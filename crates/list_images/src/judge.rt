@@ -28,16 +28,21 @@ fn no_row() -> ImageRow {
     }
 }
 
+// What does not belong.
+fn stranger() -> Seen {
+    Seen {
+        good: false,
+        row: no_row(),
+    }
+}
+
 // Says why a name does not belong.
 fn fault(name: &[u8], why: &[u8]) -> Seen {
     say(name);
     say(b": ");
     say(why);
     say(b"\n");
-    Seen {
-        good: false,
-        row: no_row(),
-    }
+    stranger()
 }
 
 // The same for a name that is no segment's, with document 01's number.
@@ -45,10 +50,7 @@ fn no_segment(name: &[u8], number: u32) -> Seen {
     say(name);
     named(b": not a segment's name, refused with", number as u64);
     say(b"\n");
-    Seen {
-        good: false,
-        row: no_row(),
-    }
+    stranger()
 }
 
 // Judges line i by itself: its kind, its name, and whether its file can be read.
