@@ -26,7 +26,7 @@ pub(crate) fn slot_size(size: u64) -> u64 {
     if 2147483648 < size {
         return 2147483648;
     }
-    page::reader_next_pos(size as u32)
+    page::padded_end(size as u32)
 }
 
 // The slot that the largest image needs.

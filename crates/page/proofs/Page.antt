@@ -1,4 +1,4 @@
--- The laws of the padded end, once, over any page size p above 0; and the two sums that the code works out, each equal to it.
+-- The laws of the padded end, once, over any page size p above 0; and the Rust's two ways of rounding, each equal to it.
 -- Statements without a sentence of their own: specs/Promised.antt. Assumes nothing.
 use mathlib.Core.Path.{_≡_, refl, ap, _∙_}
 use mathlib.Core.Bool.{Bool, true, false}

@@ -32,10 +32,10 @@ PadMonotone = (p x y : ℕ) → 0 < p → x ≤ y → paddedEnd p x ≤ paddedEn
 
 -- ---- the two ways of rounding
 
--- the reader's: a division that rounds up
+-- the body's, and the Rust's reader's: a division that rounds up
 abbrev pub PadRounded : Type 0
 PadRounded = (p x : ℕ) → 0 < p → paddedEnd p x ≡ (x + (p - 1)) / p * p
 
--- the writer's: where p does not divide x, one page more than the whole ones below it
+-- the Rust's writer's, where p does not divide x (`PadWhole` where it does): one page more than the whole ones below it
 abbrev pub PadAbove : Type 0
 PadAbove = (p x : ℕ) → 0 < p → (x % p ≡ 0 → ⊥) → paddedEnd p x ≡ (x / p + 1) * p

@@ -117,7 +117,7 @@ pub fn decide(log: Log, bytes: usize, n: usize) -> Decision
         at = log.count;
         target = new_segment(next, slot, log.end + 1);
     }
-    let room = page::writer_next_pos((HEADER_SIZE + n) as u32);
+    let room = page::padded_end((HEADER_SIZE + n) as u32);
     if log.c - target.size < room {
         return Decision::Refused(7);
     }

@@ -34,7 +34,7 @@ pub(crate) fn placed(pos: u64, header: RecordHeader) -> Placed
     let len = header.length as u64;
     let body = pos + 12;
     let end = body + len;
-    let next = page::reader_next_pos(end as u32);
+    let next = page::padded_end(end as u32);
     Placed {
         id: header.id,
         body,

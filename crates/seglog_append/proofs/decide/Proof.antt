@@ -87,9 +87,9 @@ chosen c =
     (c .if4 .came)
 
 -- the room that the record takes
-room-of : (c : tie.After-writer-next-pos) → c .writer-next-pos .result ≡ recordRoom (start (tested (c .before .before)) .args .n)
+room-of : (c : tie.After-padded-end) → c .padded-end .result ≡ recordRoom (start (tested (c .before .before)) .args .n)
 unfolding recordRoom
-room-of c = c .writer-next-pos .ensures
+room-of c = c .padded-end .ensures
 
 returns : tie.Need-returns
 returns c =

@@ -5,7 +5,7 @@ use Rattle.walk.proofs.parts.placed.Statement.{statement}
 use Rattle.walk.proofs.parts.placed.Tie as tie
 
 returns : tie.Need-returns
-returns c = (cc (c .reader-next-pos .ensures))
+returns c = (cc (c .padded-end .ensures))
 
 pub placed-spec : {M : Type 1} → statement M
 placed-spec =
