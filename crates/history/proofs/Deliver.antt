@@ -23,6 +23,7 @@ use Rattle.segment.specs.Chain.{Chain}
 use Rattle.segment.proofs.Chain.{chain-le}
 use Rattle.recovery_walk.specs.Rows.{rowOf}
 use Rattle.walk.specs.Judging.{liveOf}
+use Rattle.walk.proofs.Judging.{live-over}
 use Rattle.payload.specs.Row.{rowQuestion, payloadOf, outsideOf}
 use Rattle.payload.proofs.Row.{payload-good}
 use Rattle.walk.specs.Records.{recordsFrom}
@@ -64,15 +65,6 @@ live-join f s e a (suc m) n =
 live-yes : (s e a : ℕ) → s ≤ a → a ≤ e → liveOf s e a ≡ true
 unfolding liveOf
 live-yes s e a h g = simp (le-leb s a h, le-leb a e g)
-
--- an id above e is not live
-pub live-over : (s e a : ℕ) → e < a → liveOf s e a ≡ false
-unfolding liveOf
-live-over s e a h = go (leb s a)
-  where
-    go : (b : Bool) → pick b (leb a e) false ≡ false
-    go true = lt-leb a e h
-    go false = refl
 
 -- an id below s is not live
 pub live-under : (s e a : ℕ) → a < s → liveOf s e a ≡ false

@@ -17,24 +17,17 @@ use Rattle.seglog_prune.specs.Drop.{dropOld}
 use Rattle.recovery_walk.proofs.Rows.{row-dead}
 use Rattle.recovery_walk.specs.Rows.{rowOf}
 use Rattle.walk.specs.Judging.{liveOf}
-use Rattle.history.proofs.Deliver.{live-over, live-under}
+use Rattle.history.proofs.Deliver.{live-under}
 use Rattle.history.proofs.Later.{Grows}
-use Rattle.history.proofs.Over.{rowsOver}
+use Rattle.history.proofs.Over.{rowsOver, rows-none}
 use Rattle.history.proofs.Scans.{rowsChain}
 
 module _ (s e : ℕ) where
-  rows-none : (f : ℕ → List ℕ) (slot n pos a : ℕ) → e < a → rowsOver f s e slot pos a n ≡ []
-  unfolding rowsOver
-  rows-none f slot zero pos a h = refl
-  rows-none f slot (suc n) pos a h =
-      rw (row-dead (liveOf s e a) a slot (pos + 12) (length (f a)) (live-over s e a h))
-      (rows-none f slot n (pos + recordRoom (length (f a))) (suc a) (omega arith))
-
   -- n records of the one, m or more of the other, the same below a + m, where e is
   rows-stop : (f f′ : ℕ → List ℕ) (slot m n pos a : ℕ) → m ≤ n → e < a + m → ((i : ℕ) → a ≤ i → i < a + m → f′ i ≡ f i)
       → rowsOver f′ s e slot pos a n ≡ rowsOver f s e slot pos a m
   unfolding rowsOver
-  rows-stop f f′ slot zero n pos a l u h = rows-none f′ slot n pos a (omega arith)
+  rows-stop f f′ slot zero n pos a l u h = rows-none f′ s e slot n pos a (omega arith)
   rows-stop f f′ slot (suc m) zero pos a l u h = absurd (omega arith)
   rows-stop f f′ slot (suc m) (suc n) pos a l u h =
       let q = h a (omega arith) (omega arith) in
@@ -89,7 +82,7 @@ module _ (s e : ℕ) where
     unfolding rowsChain
     chain-none [] i b j c l h = refl
     chain-none (y ∷ ys) i b j c l h =
-        rw (rows-none f′ (y .slot) (y .max + 1 - y .min) 0 (y .min) (omega (arith, h .0 .min)))
+        rw (rows-none f′ s e (y .slot) (y .max + 1 - y .min) 0 (y .min) (omega (arith, h .0 .min)))
         (chain-none ys (i + 1) (y .max + 1) j c (omega (arith, h .0 .order)) (h .1))
 
     -- the later segments give the rows of the earlier

@@ -1,7 +1,7 @@
 -- Demand 3 for logs by their listed segments: a log z over area′ that came from a over area by appends alone.
 -- Assumes nothing.
 use mathlib.Core.Bool.{true, false}
-use mathlib.Core.List.{List, _++_, _∷_, []}
+use mathlib.Core.List.{List, _++_, _∷_, [], map, map-append}
 use mathlib.Core.Path.{_≡_, subst, sym, _∙_, ap, refl}
 use Prim.Native.Nat.{ℕ, _*_, _-_, _<_, _≤_, _+_}
 use native.Mathlib.Omega.{arith}
@@ -48,7 +48,8 @@ use Rattle.history.proofs.Prunes.{
 use Rattle.history.proofs.Records.{from-agree, from-front, splice-whole}
 use Rattle.history.proofs.Runs.{log-fitting}
 use Rattle.history.proofs.Same.{chain-same, old-rows}
-use Rattle.history.proofs.Scans.{Has, Seen, start-seen, Through, through, rowsChain, rows-through}
+use Rattle.history.proofs.Over.{Seen}
+use Rattle.history.proofs.Scans.{readTo, read-front, kept-read, Has, start-seen, Through, through, rowsChain, rows-through}
 use Rattle.history.proofs.Shape.{holds-few, sizes-few}
 use Rattle.history.proofs.Slots.{Stored}
 use Rattle.lists.proofs.AnyOrder.{any-length}
@@ -279,20 +280,32 @@ module _ (a : View) (area : List ℕ) (z : View) (area′ : List ℕ) (f f′ : 
       let fit = from-front f′ (y .min) (e + 1 - y .min) (y .max + 1 - y .min) (omega (arith, cutting .high)) in
       omega (arith, fit .0, head-is, head-stored .long)
 
-  closed : R.closedOf (z .k) (z .c) (z .m) area′ s e (walk .d .«end_of_e») words (frontOf (keptOf s e (z .segs)))
-      (headOf (keptOf s e (z .segs)))
+  -- the segments that the walk saw, and of them the kept ones: the last of them up to e
+  abbrev read : List Segment
+  read = map (readTo e) (z .segs)
+
+  kept-are : keptOf s e read ≡ cutting .hs ++ (readTo e (cutting .y) ∷ [])
+  kept-are =
+      let lh = log-holds in
+      kept-read s e (z .segs) above order ∙ ap (map (readTo e)) (cutting .kept) ∙ map-append (readTo e) (cutting .hs) (cutting .y ∷ [])
+      ∙ ap (λ (l : List Segment). l ++ (readTo e (cutting .y) ∷ []))
+      (read-front (Stored area f (log .k) (log .c)) e (cutting .hs) (closedBy f (cutting .g) e ∷ []) (lh .i) (lh .b) (lh .j) (e + 1)
+      (lh .chain) (omega arith))
+
+  closed : R.closedOf (z .k) (z .c) (z .m) area′ s e (walk .d .«end_of_e») words (frontOf (keptOf s e read)) (headOf (keptOf s e read))
       ≡ recovered log area′ words
   closed =
-      let y : Segment = cutting .y in
-      let kept : List Segment = keptOf s e (z .segs) in
-      let front : frontOf kept ≡ cutting .hs = ap (λ (l : List Segment). frontOf l) (cutting .kept) ∙ front-snoc (cutting .hs) y in
-      let head : headOf kept ≡ y = ap (λ (l : List Segment). headOf l) (cutting .kept) ∙ head-snoc (cutting .hs) y in
+      let y : Segment = readTo e (cutting .y) in
+      let kept : List Segment = keptOf s e read in
+      let front : frontOf kept ≡ cutting .hs = ap (λ (l : List Segment). frontOf l) kept-are ∙ front-snoc (cutting .hs) y in
+      let head : headOf kept ≡ y = ap (λ (l : List Segment). headOf l) kept-are ∙ head-snoc (cutting .hs) y in
+      let first-id : y .min ≡ cutting .g .min = simp (le-leb (cutting .y .min) e (cutting .low)) (sym (cutting .more .min)) in
       let last : endedAt y e (walk .d .«end_of_e») ≡ closedBy f (cutting .g) e =
       λ i. record {
         id = sym (cutting .more .id) i;
         slot = sym (cutting .more .slot) i;
         size = head-same i;
-        min = sym (cutting .more .min) i;
+        min = first-id i;
         max = e;
       } in
       ap (λ (l : List Segment). R.closedOf (z .k) (z .c) (z .m) area′ s e (walk .d .«end_of_e») words l (headOf kept)) front
@@ -306,7 +319,7 @@ module _ (a : View) (area : List ℕ) (z : View) (area′ : List ℕ) (f f′ : 
     sorted : sortRows rows ≡ rowsFor (z .segs)
     sorted = sort-any (h′ .i) rows (rowsFor (z .segs)) any (rising-rows Gu (z .segs) (h′ .i) (h′ .b) (h′ .j) (z .end + 1) (h′ .chain))
 
-    scanned : scanOf area′ (z .c) s e (sortRows rows) room ≡ walked (walk .d) (z .segs)
+    scanned : scanOf area′ (z .c) s e (sortRows rows) room ≡ walked (walk .d) read
     unfolding scanOf judged
     scanned =
         let b = walk .seen .start ∙ lt-ltb s (z .end + 1) (omega (arith, w .end)) in
@@ -355,7 +368,7 @@ module _ (a : View) (area : List ℕ) (z : View) (area′ : List ℕ) (f f′ : 
     accepted =
         in-front ∙ ap (outcomeOf (z .k) (z .c) (z .m) area′ s e (sortRows rows)) scanned
         ∙ ap (λ (l : List ImageRow). R.closedOf (z .k) (z .c) (z .m) area′ s e (walk .d .«end_of_e») (rowsAll area′ (z .c) s e l penOf)
-        (frontOf (keptOf s e (z .segs))) (headOf (keptOf s e (z .segs)))) sorted ∙ closed
+        (frontOf (keptOf s e read)) (headOf (keptOf s e read))) sorted ∙ closed
 
     -- demand 3, by views
     pub brings : Brings a area z area′ f rows s e room

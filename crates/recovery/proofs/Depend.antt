@@ -25,11 +25,11 @@ use Rattle.recovery.specs.Keeping.{keptOf}
 use Rattle.recovery.specs.Depend.{Agree, walks, DependsOnHeaders}
 
 -- an outcome agrees with itself
-same : (r : Recovery) → Agree r r
+pub same : (r : Recovery) → Agree r r
 same r = record { answer = refl; rows = λ index. refl }
 
 -- choices by one test agree where each side does where it is taken
-pick-agree : (t : Bool) (x x′ y y′ : Recovery) → Agree x x′ → (t ≡ false → Agree y y′) → Agree (pick t x y) (pick t x′ y′)
+pub pick-agree : (t : Bool) (x x′ y y′ : Recovery) → Agree x x′ → (t ≡ false → Agree y y′) → Agree (pick t x y) (pick t x′ y′)
 pick-agree true x x′ y y′ p q = p
 pick-agree false x x′ y y′ p q = q refl
 
@@ -48,7 +48,7 @@ module _ (k c m : ℕ) (area area′ : List ℕ) (rows : List ImageRow) (s e roo
       sym left ∙ agree .index [] ∙ right
 
   -- what the two scans come to
-  scanned-agree : Agree (scanned k c m area rows s e room) (scanned k c m area′ rows s e room)
+  pub scanned-agree : Agree (scanned k c m area rows s e room) (scanned k c m area′ rows s e room)
   scanned-agree = by (scanOf area c s e rows room) refl
     where
       by : (o : Outcome Found) → scanOf area c s e rows room ≡ o

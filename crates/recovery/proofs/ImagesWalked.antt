@@ -1,5 +1,5 @@
 -- What an accepted walk over any images tells: the records of each image go on from those before, whatever bytes the images hold; the
--- images of size above 0 come first, and each gives a segment; where s and e are found; and where the record e ends.
+-- images whose records are read come first, and each gives a segment; where s and e are found; and where the record e ends.
 -- Assumes nothing.
 use mathlib.Core.Path.{_≡_, refl, sym, ap, subst, _∙_}
 use mathlib.Core.Bool.{Bool, true, false, _&&_, _||_}
@@ -26,9 +26,9 @@ use Rattle.segment.proofs.Chain.{chain-le}
 use Rattle.walk.specs.declared.Scan.{Scan}
 use Rattle.walk.specs.declared.Step.the-variants.{Next}
 use Rattle.walk.specs.declared.Walked.the-variants.{Ended}
-use Rattle.walk.specs.Judging.{liveOf, cutOf, moreOf, gapOf, recordStep, advancedOf, openedOf}
+use Rattle.walk.specs.Judging.{liveOf, cutOf, goesOn, moreOf, gapOf, recordStep, advancedOf, openedOf}
 use Rattle.walk.specs.Walk.{walkOf}
-use Rattle.walk.proofs.Judging.{Follows, follows-is, went, more-over}
+use Rattle.walk.proofs.Judging.{Follows, follows-is, went, more-over, more-ended, more-stopped, opened-goes, gap-none}
 use Rattle.walk.proofs.Walk.{walk-end, walk-keeps}
 use Rattle.recovery_walk.specs.Images.{walked, images, filledOf}
 use Rattle.recovery_walk.proofs.Images.{walked-same, first-walked}
@@ -180,7 +180,11 @@ module _ (area : List ℕ) (k c s e : ℕ) (all : length area ≡ k * c) (whole 
   image-long r h g =
       part-length (r .slot * c) (r .size) area (omega (arith, mul-le-mul-right c h, suc-mul (r .slot) c))
 
-  -- behind an image of size 0 no record is read: what the states w and d have in common
+  -- no record is read any more: the image opened last has size 0, or e's record is read
+  abbrev Still : Scan → Type 0
+  Still w = (w .gap ≡ true) ⊎ (goesOn w ≡ false)
+
+  -- then the states w and d have this in common
   pub record Quiet (w d : Scan) (gs : List Segment) : Type 0 where
     pub empty : Empties gs
     pub last : d .last ≡ w .last
@@ -188,21 +192,38 @@ module _ (area : List ℕ) (k c s e : ℕ) (all : length area ≡ k * c) (whole 
     pub end : d .«found_e» ≡ w .«found_e»
     pub head : d .«end_of_e» ≡ w .«end_of_e»
 
-  -- an image of size 0
-  no-record : (r : ImageRow) (w d : Scan) → r .slot < k → r .size ≤ c → r .size ≡ 0
+  -- an image without a record to read
+  no-record : (r : ImageRow) (w d : Scan) → moreOf (openedOf w (r .size)) (length (imageOf area c r)) ≡ false
       → walkOf (imageOf area c r) s e (openedOf w (r .size)) ≡ Ended d → openedOf w (r .size) ≡ d
-  unfolding moreOf
-  no-record r w d h g z q =
+  no-record r w d over q =
       let img : List ℕ = imageOf area c r in
-      let none : length img ≡ 0 = image-long r h g ∙ z in
-      let over : moreOf (openedOf w (r .size)) (length img) ≡ false = ap (λ (x : ℕ). ltb 0 x) none in
       let same : Ended (openedOf w (r .size)) ≡ Ended d = sym (walk-end (length img) (headerAt img) s e (openedOf w (r .size)) over) ∙ q in
       (cc)
 
-  quiet : (rs : List ImageRow) (w d : Scan) (gs : List Segment) → rowsInside k c rs ≡ true → w .gap ≡ true
+  -- one of size 0
+  none-of-size : (r : ImageRow) (w : Scan) → r .slot < k → r .size ≤ c → r .size ≡ 0
+      → moreOf (openedOf w (r .size)) (length (imageOf area c r)) ≡ false
+  none-of-size r w h g z = more-ended (openedOf w (r .size)) (length (imageOf area c r)) (omega (arith, image-long r h g))
+
+  -- one behind e's record
+  none-behind : (r : ImageRow) (w : Scan) → goesOn w ≡ false → moreOf (openedOf w (r .size)) (length (imageOf area c r)) ≡ false
+  none-behind r w h = more-stopped (openedOf w (r .size)) (length (imageOf area c r)) (opened-goes w (r .size) ∙ h)
+
+  -- no record is read in the next image either
+  still : (r : ImageRow) (w : Scan) → r .slot < k → r .size ≤ c → Still w → gapOf w (r .size) ≡ false
+      → (moreOf (openedOf w (r .size)) (length (imageOf area c r)) ≡ false) × Still (openedOf w (r .size))
+  still r w h g was calm =
+      by-test (goesOn w)
+      (λ on.
+      let gap : w .gap ≡ true = ⊎-elim (λ y. y) (λ y. both-ways (goesOn w) on y) was in
+      let none : r .size ≡ 0 = gap-none w (r .size) on gap calm in
+      (none-of-size r w h g none, inl (eq-eqb (r .size) 0 none)))
+      (λ off. (none-behind r w off, inr (opened-goes w (r .size) ∙ off)))
+
+  quiet : (rs : List ImageRow) (w d : Scan) (gs : List Segment) → rowsInside k c rs ≡ true → Still w
       → images area c s e rs w ≡ walked d gs → Quiet w d gs
-  unfolding images all gapOf
-  quiet [] w d gs h gap q =
+  unfolding images all
+  quiet [] w d gs h was q =
       let same = walked-same q in
       record {
         empty = subst Empties (same .1) tt;
@@ -211,14 +232,13 @@ module _ (area : List ℕ) (k c s e : ℕ) (all : length area ≡ k * c) (whole 
         end = sym (ap (λ (x : Scan). x .«found_e») (same .0));
         head = sym (ap (λ (x : Scan). x .«end_of_e») (same .0));
       }
-  quiet (r ∷ rs) w d gs h gap q =
+  quiet (r ∷ rs) w d gs h was q =
       let f = first-walked area c s e r w rs d gs q in
       let t = and-both (ltb (r .slot) k && leb (r .size) c) (rowsInside k c rs) h in
       let u = and-both (ltb (r .slot) k) (leb (r .size) c) (t .0) in
-      let calm : ltb 0 (r .size) ≡ false = ap (λ (b : Bool). b && ltb 0 (r .size)) (sym gap) ∙ f .calm in
-      let none : r .size ≡ 0 = omega (arith, ltb-false 0 (r .size) calm) in
-      let same = no-record r w (f .state) (ltb-true (r .slot) k (u .0)) (leb-true (r .size) c (u .1)) none (f .ended) in
-      let more = quiet rs (f .state) d (f .later) (t .1) (sym (ap (λ (x : Scan). x .gap) same) ∙ eq-eqb (r .size) 0 none) (f .on) in
+      let on = still r w (ltb-true (r .slot) k (u .0)) (leb-true (r .size) c (u .1)) was (f .calm) in
+      let same = no-record r w (f .state) (on .0) (f .ended) in
+      let more = quiet rs (f .state) d (f .later) (t .1) (subst Still same (on .1)) (f .on) in
       record {
         empty = subst Empties (sym (f .segments)) (sym (ap (λ (x : Scan). x .max) same), more .empty);
         last = more .last ∙ sym (ap (λ (x : Scan). x .last) same);
@@ -227,7 +247,7 @@ module _ (area : List ℕ) (k c s e : ℕ) (all : length area ≡ k * c) (whole 
         head = more .head ∙ sym (ap (λ (x : Scan). x .«end_of_e») same);
       }
 
-  -- a walk that is accepted, from any state: first the images of size above 0, then those of size 0
+  -- a walk that is accepted, from any state: first the images whose records are read, then those of size 0 or behind e
   pub images-tell : (rs : List ImageRow) (i : ℕ) (w d : Scan) (gs : List Segment) → rowsInside k c rs ≡ true → IdsFrom i rs
       → images area c s e rs w ≡ walked d gs → Tells k c s e i w d gs
   unfolding images all
@@ -252,14 +272,20 @@ module _ (area : List ℕ) (k c s e : ℕ) (all : length area ≡ k * c) (whole 
       let u = and-both (ltb (r .slot) k) (leb (r .size) c) (t .0) in
       let slot : r .slot < k = ltb-true (r .slot) k (u .0) in
       let size : r .size ≤ c = leb-true (r .size) c (u .1) in
-      by-test (eqb (r .size) 0)
-      (λ z.
-      let same = no-record r w (f .state) slot size (eqb-true (r .size) 0 z) (f .ended) in
+      let unread : (moreOf (openedOf w (r .size)) (length (imageOf area c r)) ≡ false) × Still (openedOf w (r .size))
+      → Tells k c s e i w d gs =
+      λ no.
+      let same = no-record r w (f .state) (no .0) (f .ended) in
       empty-first r w d gs (f .state) (f .later) same
-      (quiet rs (f .state) d (f .later) (t .1) (sym (ap (λ (x : Scan). x .gap) same) ∙ z) (f .on)) (f .segments))
+      (quiet rs (f .state) d (f .later) (t .1) (subst Still same (no .1)) (f .on)) (f .segments) in
+      by-test (goesOn w)
+      (λ on.
+      by-test (eqb (r .size) 0)
+      (λ z. unread (none-of-size r w slot size (eqb-true (r .size) 0 z), inl z))
       (λ z.
-      filled-first r w d gs (f .state) (f .later) slot size (eqb-false (r .size) 0 z) (ids .0) (f .ended)
-      (images-tell rs (i + 1) (f .state) d (f .later) (t .1) (ids .1) (f .on)) (f .segments))
+      filled-first r w d gs (f .state) (f .later) slot size (eqb-false (r .size) 0 z) on (ids .0) (f .ended)
+      (images-tell rs (i + 1) (f .state) d (f .later) (t .1) (ids .1) (f .on)) (f .segments)))
+      (λ off. unread (none-behind r w off, inr (opened-goes w (r .size) ∙ off)))
     where
       empty-first : (r : ImageRow) (w d : Scan) (gs : List Segment) (m : Scan) (later : List Segment) → openedOf w (r .size) ≡ m
           → Quiet m d later → gs ≡ filledOf r m ∷ later → Tells k c s e i w d gs
@@ -281,19 +307,19 @@ module _ (area : List ℕ) (k c s e : ℕ) (all : length area ≡ k * c) (whole 
           }
 
       filled-first : (r : ImageRow) (w d : Scan) (gs : List Segment) (m : Scan) (later : List Segment) → r .slot < k → r .size ≤ c
-          → (r .size ≡ 0 → ⊥) → r .id ≡ i → walkOf (imageOf area c r) s e (openedOf w (r .size)) ≡ Ended m
+          → (r .size ≡ 0 → ⊥) → goesOn w ≡ true → r .id ≡ i → walkOf (imageOf area c r) s e (openedOf w (r .size)) ≡ Ended m
           → Tells k c s e (i + 1) m d later → gs ≡ filledOf r m ∷ later → Tells k c s e i w d gs
-      filled-first r w d gs m later slot size some id ended o segs =
+      filled-first r w d gs m later slot size some on id ended o segs =
           let long = image-long r slot size in
           let from : Scan = openedOf w (r .size) in
           let ran : Ran c s e from m =
-          ⊎-elim (λ z. absurd (omega (arith, more-over from (length (imageOf area c r)) (z .0)))) (λ z. z)
+          ⊎-elim (λ z. absurd (omega (arith, more-over from (length (imageOf area c r)) (opened-goes w (r .size) ∙ on) (z .0)))) (λ z. z)
           (walk-ran (imageOf area c r) c s e (omega arith) whole order from m ended) in
           let up = ran .upto in
-          let on : o .b ≡ m .last + 1 = o .follows .next (λ z. omega (arith, ran .follows .some)) in
-          let next : m .max + 1 ≡ o .b = ap (λ (x : ℕ). x + 1) (ran .max) ∙ sym on in
+          let from-b : o .b ≡ m .last + 1 = o .follows .next (λ z. omega (arith, ran .follows .some)) in
+          let next : m .max + 1 ≡ o .b = ap (λ (x : ℕ). x + 1) (ran .max) ∙ sym from-b in
           let far : m .last + 1 ≤ d .last + 1 =
-          omega (arith, on, chain-le (InSlot k c) (o .ys) (i + 1) (o .b) (o .j) (d .last + 1) (o .chain)) in
+          omega (arith, from-b, chain-le (InSlot k c) (o .ys) (i + 1) (o .b) (o .j) (d .last + 1) (o .chain)) in
           record {
             b = ran .first;
             j = o .j;

@@ -23,14 +23,14 @@ module _ (s e : ℕ) where
   kept-here g gs h l = simp (le-leb (g .min) e h, le-leb s (g .max) l)
 
   -- one that ends before s
-  kept-early : (g : Segment) (gs : List Segment) → g .max < s → keptOf s e (g ∷ gs) ≡ keptOf s e gs
+  pub kept-early : (g : Segment) (gs : List Segment) → g .max < s → keptOf s e (g ∷ gs) ≡ keptOf s e gs
   unfolding keptOf holdsLive
   kept-early g gs h =
       ap (λ (b : Bool). pick (leb (g .min) e && b) (g ∷ keptOf s e gs) (keptOf s e gs)) (lt-leb s (g .max) h)
       ∙ ap (λ (b : Bool). pick b (g ∷ keptOf s e gs) (keptOf s e gs)) (and-false (leb (g .min) e))
 
   -- one that begins after e
-  kept-late : (g : Segment) (gs : List Segment) → e < g .min → keptOf s e (g ∷ gs) ≡ keptOf s e gs
+  pub kept-late : (g : Segment) (gs : List Segment) → e < g .min → keptOf s e (g ∷ gs) ≡ keptOf s e gs
   unfolding keptOf holdsLive
   kept-late g gs h =
       ap (λ (b : Bool). pick (b && leb s (g .max)) (g ∷ keptOf s e gs) (keptOf s e gs)) (lt-leb (g .min) e h)

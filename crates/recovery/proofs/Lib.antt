@@ -6,6 +6,8 @@ pub mod RecoveryShape
 pub mod RecoveryWays
 pub mod RecoveryScan
 pub mod Depend
+pub mod DependBehind
+pub mod RecoveryWhole
 pub mod RecoveryRows
 pub mod Recovery
 pub mod Unique

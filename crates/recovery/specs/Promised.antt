@@ -1,15 +1,22 @@
 -- The statements of this crate that docs/PROMISES.md cites, each of every accepted recovery, whatever bytes the images hold; that recovery
--- depends on the headers walked alone: specs/Depend.antt. Proofs: proofs/Recovery.antt. Assumes nothing.
+-- depends on the headers walked alone: specs/Depend.antt. Proofs: proofs/Recovery.antt, proofs/RecoveryWhole.antt. Assumes nothing.
 use mathlib.Core.Path.{_≡_}
 use mathlib.Core.Bool.{true}
 use mathlib.Core.List.{List, []}
 use Prim.Native.Nat.{ℕ, _+_, _*_, _≤_}
 use lib.ListN.{length, drop}
 use Rattle.lists.specs.Splice.{part, slotOf}
+use Rattle.segment.specs.declared.Segment.{Segment}
 use Rattle.segment.specs.declared.ImageRow.{ImageRow}
-use Rattle.seglog.specs.View.{View, emptyOf, headOf}
+use Rattle.image_rows.specs.ImageRows.{sortRows}
+use Rattle.recovery_walk.specs.Rows.{Pen, penOf}
+use Rattle.recovery_walk.specs.Scan.{liveCount}
+use Rattle.recovery_walk.specs.Whole.{WholeImages}
+use Rattle.seglog.specs.View.{View, emptyOf, headOf, frontOf}
 use Rattle.seglog.specs.Fit.{fitsOf}
-use Rattle.recovery.specs.Recovery.{recovered, recoveryOf}
+use Rattle.recovery.specs.Keeping.{keptOf}
+use Rattle.recovery.specs.Recovery.{recovered, recoveryOf, closedOf}
+use Rattle.recovery.specs.Depend.{walks}
 
 -- every accepted log is well shaped, and the area has K x C bytes
 abbrev pub RecoveredFits : Type 0
@@ -42,3 +49,12 @@ abbrev pub RecoveredEmpty : Type 0
 RecoveredEmpty =
     (k c m : ℕ) (area : List ℕ) (rows : List ImageRow) (s e room : ℕ) (a : View) (area′ words : List ℕ) → s ≡ 0
     → recoveryOf k c m area rows s e room ≡ recovered a area′ words → (a ≡ emptyOf k c m) × (area′ ≡ area) × (words ≡ [])
+
+-- document 02's ask 1 changed no recovery that was accepted: where document 01's walk over whole images, to their ends, finds s and e and the
+-- index has room, recovery accepts, and the log, the area and the index rows are those of that walk
+abbrev pub AcceptedStays : Type 0
+AcceptedStays =
+    (k c m : ℕ) (area : List ℕ) (rows : List ImageRow) (s e room : ℕ) (z : Pen) (gs : List Segment) → walks k c m area rows s e ≡ true
+    → WholeImages area c s e (sortRows rows) penOf z gs → z .scan .«found_s» ≡ true → z .scan .«found_e» ≡ true → 4 * liveCount s e ≤ room
+    → recoveryOf k c m area rows s e room
+    ≡ closedOf k c m area s e (z .scan .«end_of_e») (z .words) (frontOf (keptOf s e gs)) (headOf (keptOf s e gs))

@@ -2,11 +2,10 @@
 -- Assumes nothing.
 use mathlib.Core.Path.{_≡_, refl, sym, ap, _∙_}
 use mathlib.Core.List.{List, [], _∷_}
-use mathlib.Core.Bool.{Bool, true, false}
+use mathlib.Core.Bool.{true, false}
 use Prim.Native.Nat.{ℕ, _≤_}
 use native.Mathlib.Omega.{arith}
 use lib.ListN.{length}
-use Rattle.lists.specs.Choice.{pick}
 use Rattle.lists.specs.Outcome.{Outcome, refused, done}
 use Rattle.lists.proofs.Bools.{zero-is-not-one}
 use Rattle.lists.proofs.Outcome.{done-injective}
@@ -24,7 +23,7 @@ use Rattle.walk.specs.Judging.{gapOf, openedOf, nextImage}
 use Rattle.walk.specs.Walk.{walkOf}
 use Rattle.walk.proofs.Judging.{next-image-number}
 use Rattle.walk.proofs.Walk.{walk-number}
-use Rattle.recovery_walk.specs.Images.{entered, imageWalk, Found, walked, filledOf, after, behind, images}
+use Rattle.recovery_walk.specs.Images.{entered, imageWalk, Found, walked, filledOf, behind, images}
 
 -- a walk that was accepted has one last state, and one list of segments
 pub walked-same : {x y : Scan} {xs ys : List Segment} → walked x xs ≡ walked y ys → (x ≡ y) × (xs ≡ ys)
@@ -120,18 +119,19 @@ module _ (area : List ℕ) (c s e : ℕ) (r : ImageRow) (w : Scan) where
               segments = x .2;
             }
 
+-- an outcome that is refused with segments in front is refused without
+pub behind-refused : (gs : List Segment) (o : Outcome Found) (n : ℕ) → behind gs o ≡ refused n → o ≡ refused n
+behind-refused gs (refused k) n t = t
+behind-refused gs (done a) n t = zero-is-not-one (cc)
+
 -- a refusal of the walk is 16 to 20
 pub images-number : (area : List ℕ) (c s e : ℕ) (rs : List ImageRow) (w : Scan) (n : ℕ) → images area c s e rs w ≡ refused n → WalkFault n
 unfolding images
 images-number area c s e [] w n q = zero-is-not-one (cc)
 images-number area c s e (r ∷ rs) w n q = go (imageWalk area c s e r w) refl (λ d z. images-number area c s e rs d n z)
   where
-    tail : (d : Scan) (o : Outcome Found) → behind (filledOf r d ∷ []) o ≡ refused n → o ≡ refused n
-    tail d (refused k) t = t
-    tail d (done a) t = zero-is-not-one (cc)
-
     go : (o : Walked) → imageWalk area c s e r w ≡ o → ((d : Scan) → images area c s e rs d ≡ refused n → WalkFault n) → WalkFault n
     go (Faulted k v) t ih =
         let is : k ≡ n = cc (images-fault area c s e r w rs k v t) in
         image-number area c s e r w n v (rw is at t)
-    go (Ended d) t ih = ih d (tail d (images area c s e rs d) (sym (images-next area c s e r w rs d t) ∙ q))
+    go (Ended d) t ih = ih d (behind-refused (filledOf r d ∷ []) (images area c s e rs d) n (sym (images-next area c s e r w rs d t) ∙ q))

@@ -5,5 +5,7 @@ pub mod Headers
 mod Bounds
 mod ImagesTurn
 mod RowsTurn
+pub mod ImagesBehind
+pub mod Whole
 pub mod Scan
 pub mod Unique

@@ -1,5 +1,5 @@
--- "The headers walked": which bytes of the area a scan reads, by the places in the area of the headers that the walk comes to.
--- proofs/Headers.antt shows that a scan depends on the twelve bytes at these places and on no other byte. Assumes nothing.
+-- "The headers walked": which bytes of the area a scan reads, by the places in the area of the headers that the walk comes to; none is
+-- behind e's record. proofs/Headers.antt shows that a scan depends on the twelve bytes at these places and on no other byte. Assumes nothing.
 use mathlib.Core.Path.{_≡_}
 use mathlib.Core.List.{List, [], _∷_}
 use mathlib.Core.Bool.{true}

@@ -1,7 +1,7 @@
--- The walk over the images in the order of their rows: "the first fault ends both the record walk and the image walk". Laws: proofs/.
--- Assumes nothing.
+-- The walk over the images in the order of their rows: "the first fault ends both the record walk and the image walk". Behind e's record it
+-- reads nothing (walk's `goesOn`), and later rows give segments in which no record was seen. Laws: proofs/. Assumes nothing.
 use mathlib.Core.List.{List, [], _∷_, _++_}
-use Prim.Native.Nat.{ℕ, _+_, _*_, _^_, _≤_, _<_}
+use Prim.Native.Nat.{ℕ, _+_, _*_, _≤_, _<_}
 use lib.ListN.{length, getD}
 use Rattle.lists.specs.Outcome.{Outcome, refused, done, either}
 use Rattle.segment.specs.declared.Segment.{Segment}

@@ -3,3 +3,4 @@ pub mod Rows
 pub mod Scan
 pub mod Headers
 pub mod Promised
+pub mod Whole

@@ -1,19 +1,41 @@
--- The statements of this crate that docs/PROMISES.md cites; proofs: proofs/Headers.antt, proofs/RowsIds.antt. Assumes nothing.
+-- The statements of this crate that docs/PROMISES.md cites; proofs: proofs/ImagesBehind.antt, proofs/Headers.antt, proofs/RowsIds.antt.
+-- Assumes nothing.
 use mathlib.Core.Path.{_≡_}
 use mathlib.Core.Logic.{_⊎_}
-use mathlib.Core.List.{List}
-use mathlib.Core.Bool.{true}
+use mathlib.Core.List.{List, _∷_, _++_}
+use mathlib.Core.Bool.{true, false}
 use Prim.Native.Nat.{ℕ, _+_, _≤_, _<_}
 use lib.ListN.{length}
+use Rattle.lists.specs.Outcome.{refused}
 use Rattle.lists.specs.Splice.{splice}
 use Rattle.segment.specs.declared.Segment.{Segment}
 use Rattle.segment.specs.declared.ImageRow.{ImageRow}
 use Rattle.walk.specs.declared.Scan.{Scan}
+use Rattle.walk.specs.declared.Walked.the-variants.{Faulted}
 use Rattle.walk.specs.Judging.{startOf}
-use Rattle.recovery_walk.specs.Images.{walked, images}
+use Rattle.recovery_walk.specs.Images.{imageWalk, walked, images}
 use Rattle.recovery_walk.specs.Rows.{rowsAll, penOf, RowIds}
 use Rattle.recovery_walk.specs.Scan.{liveCount, scanOf, indexOf}
 use Rattle.recovery_walk.specs.Headers.{EachWalked, SameHeader}
+
+-- where a fault of the walk stands: the images in front of its image are good, and at the state v in its image e's record is not read yet
+pub record FaultUpToE (area : List ℕ) (c s e : ℕ) (rows : List ImageRow) (w : Scan) (n : ℕ) : Type 0 where
+  pub front : List ImageRow
+  pub at : ImageRow
+  pub later : List ImageRow
+  pub split : rows ≡ front ++ (at ∷ later)
+  pub d : Scan
+  pub segs : List Segment
+  pub good : images area c s e front w ≡ walked d segs
+  pub v : Scan
+  pub fault : imageWalk area c s e at d ≡ Faulted n v
+  pub unread : v .«found_e» ≡ false
+
+-- "Refusals 16 to 20 speak only of what stands up to e": where the walk is refused, the fault stands before e's record
+abbrev pub RefusedUpToE : Type 0
+RefusedUpToE =
+    (area : List ℕ) (c s e : ℕ) (rows : List ImageRow) (w : Scan) (n : ℕ) → images area c s e rows w ≡ refused n
+    → FaultUpToE area c s e rows w n
 
 -- what the scans of two areas agree in: the outcome, and what any index is afterwards
 pub record ScansAgree (area area′ : List ℕ) (c s e : ℕ) (rows : List ImageRow) (words : ℕ) : Type 0 where

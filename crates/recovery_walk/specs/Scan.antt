@@ -14,7 +14,7 @@ use Rattle.segment.specs.declared.ImageRow.{ImageRow}
 use Rattle.walk.specs.declared.Scan.{Scan}
 use Rattle.walk.specs.Judging.{startOf}
 use Rattle.recovery_walk.specs.declared.Scanned.{Scanned}
-use Rattle.recovery_walk.specs.Images.{Found, walked, images}
+use Rattle.recovery_walk.specs.Images.{Found, images}
 use Rattle.recovery_walk.specs.Rows.{rowsAll, penOf}
 
 -- the live records are s to e

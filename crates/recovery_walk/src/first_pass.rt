@@ -1,5 +1,6 @@
 // The first pass, which reads and decides: the records loop inside the images loop, and a labelled break carries the first fault out
-// of both. Nothing of the area but headers is read.
+// of both. Nothing of the area but headers is read, and none behind e's record: from there on `next_image` tells no gap and `more` is
+// false, so a later row only gives its segment, without records.
 ghost use mathlib.Core.Path.{_≡_};
 ghost use lib.ListN.{take, replicate};
 ghost use Rattle.lists.specs.Outcome.{refused};

@@ -89,7 +89,7 @@ pub(crate) fn walks() -> bool {
         first: row(1, 0, 8192),
         second: row(2, 1, 4100),
     };
-    let header = met(recover(torn, 1, 3), 17, b"short header");
+    let header = met(recover(torn, 1, 4), 17, b"short header");
     let length = met(
         damaged(whole(), 1, 4, 3, 255),
         18,

@@ -1,18 +1,19 @@
 -- The laws of one record of the walk: what each test says, the ways of a judged header, and what a step that goes on tells.
 -- Assumes nothing.
 use mathlib.Core.Path.{_≡_, refl, sym, ap, _∙_}
-use mathlib.Core.Bool.{Bool, true, false}
+use mathlib.Core.Bool.{Bool, true, false, _&&_, not, and-false}
 use mathlib.Core.List.{[], _∷_}
 use mathlib.Core.Logic.{⊎-elim}
 use Prim.Native.Nat.{ℕ, zero, suc, _+_, _-_, _≤_, _<_}
 use native.Mathlib.Numerals.{add-one, sub-one}
 use native.Mathlib.Omega.{arith}
 use lib.Dec.{ltb, leb, eqb, eqb·suc-suc, lit<}
-use borrow.Author.Tests.{eq-eqb, ne-eqb, ltb-true, ltb-false, lt-ltb, le-ltb, leb-true, le-leb, eqb-true, eqb-false}
+use borrow.Author.Tests.{eq-eqb, ne-eqb, ltb-true, ltb-false, lt-ltb, le-ltb, leb-true, le-leb, lt-leb, eqb-true, eqb-false}
 use types.Run.{OneOf}
 use denote.Enum.Declared.{tagOf}
 use Rattle.lists.specs.Choice.{pick}
-use Rattle.lists.proofs.Bools.{clash, zero-is-not-one, and-both}
+use Rattle.lists.proofs.Bools.{clash, zero-is-not-one, and-both, both-ways}
+use Rattle.lists.proofs.Cases.{by-test}
 use Rattle.page.proofs.Page.{pad-ge}
 use Rattle.record.specs.declared.RecordHeader.{RecordHeader}
 use Rattle.record.specs.declared.HeaderAnswer.{HeaderAnswer}
@@ -25,19 +26,80 @@ use Rattle.walk.specs.declared.Placed.{Placed}
 use Rattle.walk.specs.declared.RecordAnswer.the-variants.{Record, Refused}
 use Rattle.walk.specs.declared.Step.the-variants.{Next, Fault}
 use Rattle.walk.specs.Judging.{maxImage, headerFits, placedOf, readAt, recordAt, followsOf, liveOf, cutOf, passedOf}
-use Rattle.walk.specs.Judging.{judgeRecord, judgeOf, advancedOf, moreOf, gapOf, openedOf, nextImage}
+use Rattle.walk.specs.Judging.{judgeRecord, judgeOf, advancedOf, goesOn, moreOf, gapOf, openedOf, nextImage}
 
 -- ---- the tests
+
+-- where there is one more record the walk goes on
+pub more-going : (w : Scan) (n : ℕ) → moreOf w n ≡ true → goesOn w ≡ true
+unfolding moreOf
+more-going w n h = and-both (goesOn w) (ltb (w .pos) n) h .0
 
 -- one more record stands inside the image
 pub more-inside : (w : Scan) (n : ℕ) → moreOf w n ≡ true → w .pos < n
 unfolding moreOf
-more-inside w n h = ltb-true (w .pos) n h
+more-inside w n h = ltb-true (w .pos) n (and-both (goesOn w) (ltb (w .pos) n) h .1)
 
--- no more record: the place is at the image's end or past it
-pub more-over : (w : Scan) (n : ℕ) → moreOf w n ≡ false → n ≤ w .pos
+-- one that stands inside is one more, where the walk goes on
+pub more-inside-goes : (w : Scan) (n : ℕ) → goesOn w ≡ true → w .pos < n → moreOf w n ≡ true
 unfolding moreOf
-more-over w n h = ltb-false (w .pos) n h
+more-inside-goes w n g h = simp (g, lt-ltb (w .pos) n h)
+
+-- no more record where the walk goes on: the place is at the image's end or past it
+pub more-over : (w : Scan) (n : ℕ) → goesOn w ≡ true → moreOf w n ≡ false → n ≤ w .pos
+unfolding moreOf
+more-over w n g h = ltb-false (w .pos) n (ap (λ (b : Bool). b && ltb (w .pos) n) (sym g) ∙ h)
+
+-- no more record at the image's end
+pub more-ended : (w : Scan) (n : ℕ) → n ≤ w .pos → moreOf w n ≡ false
+unfolding moreOf
+more-ended w n h = ap (λ (b : Bool). goesOn w && b) (le-ltb (w .pos) n h) ∙ and-false (goesOn w)
+
+-- behind e's record there is no more record
+pub more-stopped : (w : Scan) (n : ℕ) → goesOn w ≡ false → moreOf w n ≡ false
+unfolding moreOf
+more-stopped w n g = ap (λ (b : Bool). b && ltb (w .pos) n) g
+
+-- and no gap
+pub gap-stopped : (w : Scan) (n : ℕ) → goesOn w ≡ false → gapOf w n ≡ false
+unfolding gapOf
+gap-stopped w n g = ap (λ (b : Bool). b && (w .gap && ltb 0 n)) g
+
+-- no gap where the image opened last has a size above 0
+pub gap-calm : (w : Scan) (n : ℕ) → w .gap ≡ false → gapOf w n ≡ false
+unfolding gapOf
+gap-calm w n z = ap (λ (b : Bool). goesOn w && (b && ltb 0 n)) z ∙ and-false (goesOn w)
+
+-- where the walk goes on behind an image of size 0, the next one is of size 0 too
+pub gap-none : (w : Scan) (n : ℕ) → goesOn w ≡ true → w .gap ≡ true → gapOf w n ≡ false → n ≡ 0
+unfolding gapOf
+gap-none w n g z h =
+    let calm : ltb 0 n ≡ false = ap (λ (b : Bool). b && ltb 0 n) (sym z) ∙ ap (λ (b : Bool). b && (w .gap && ltb 0 n)) (sym g) ∙ h in
+    omega (arith, ltb-false 0 n calm)
+
+-- the walk goes on where e is not found
+pub goes-on : (w : Scan) → w .«found_e» ≡ false → goesOn w ≡ true
+unfolding goesOn
+goes-on w h = ap not h
+
+-- and stops where it is
+pub stopped : (w : Scan) → w .«found_e» ≡ true → goesOn w ≡ false
+unfolding goesOn
+stopped w h = ap not h
+
+-- so it says whether e is found
+pub going-unfound : (w : Scan) → goesOn w ≡ true → w .«found_e» ≡ false
+unfolding goesOn
+going-unfound w h = by-test (w .«found_e») (λ t. both-ways (goesOn w) h (ap not t)) (λ f. f)
+
+pub stopped-found : (w : Scan) → goesOn w ≡ false → w .«found_e» ≡ true
+unfolding goesOn
+stopped-found w h = by-test (w .«found_e») (λ t. t) (λ f. both-ways (goesOn w) (ap not f) h)
+
+-- an opened image changes nothing in this
+pub opened-goes : (w : Scan) (n : ℕ) → goesOn (openedOf w n) ≡ goesOn w
+unfolding goesOn
+opened-goes w n = refl
 
 -- a header that fits ends inside the image, and no image is larger than 2^31 bytes
 pub record Inside (size pos : ℕ) : Type 0 where
@@ -105,6 +167,15 @@ follows-later last id w = go (eqb last 0) refl
     go : (b : Bool) → eqb last 0 ≡ b → last < id
     go true e = omega (arith, eqb-true last 0 e, w .some)
     go false e = omega (arith, w .next (eqb-false last 0 e))
+
+-- an id above e is not live
+pub live-over : (s e id : ℕ) → e < id → liveOf s e id ≡ false
+unfolding liveOf
+live-over s e id h = go (leb s id)
+  where
+    go : (b : Bool) → pick b (leb id e) false ≡ false
+    go true = lt-leb id e h
+    go false = refl
 
 -- a payload that ends inside the image is not cut short
 pub not-cut : (size s e id end : ℕ) → end ≤ size → cutOf size s e id end ≡ false
@@ -265,3 +336,12 @@ next-image-number w n m t = go (gapOf w n) t
     go : (b : Bool) → pick b (Fault 16) (Next (openedOf w n)) ≡ Fault m → m ≡ 16
     go true t = cc
     go false t = zero-is-not-one (cc)
+
+-- and it is told only where the walk goes on
+pub next-image-going : (w : Scan) (n m : ℕ) → nextImage w n ≡ Fault m → goesOn w ≡ true
+unfolding nextImage gapOf
+next-image-going w n m t = go (goesOn w) (w .gap && ltb 0 n) t
+  where
+    go : (a b : Bool) → pick (a && b) (Fault 16) (Next (openedOf w n)) ≡ Fault m → a ≡ true
+    go true b t = refl
+    go false b t = zero-is-not-one (cc)

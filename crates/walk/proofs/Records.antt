@@ -1,23 +1,24 @@
 -- The walk over records one behind another, whatever follows them: it comes to the state after them. Assumes nothing.
 use mathlib.Core.Path.{_≡_, refl, sym, ap, _∙_}
 use mathlib.Core.List.{List, _++_, append-assoc}
-use mathlib.Core.Bool.{true}
+use mathlib.Core.Bool.{true, false}
 use Prim.Native.Nat.{ℕ, zero, suc, _+_, _%_, _^_, _≤_, _<_}
 use native.Mathlib.Nat.{add-assoc, add-zero}
 use native.Mathlib.Omega.{arith}
 use lib.ListN.{length, length-append}
 use lib.Dec.{lit<}
-use borrow.Author.Tests.{lt-ltb}
+use Rattle.lists.proofs.Bools.{both-ways}
+use Rattle.lists.proofs.Cases.{by-test}
 use Rattle.page.specs.Page.{paddedEnd}
 use Rattle.page.proofs.Page.{pad-after, pad-multiple}
 use Rattle.record.specs.Record.{maxPayload, recordRoom, recordBytes, headerAt}
 use Rattle.record.proofs.Record.{record-length, room-ge, record-header}
 use Rattle.walk.specs.declared.Scan.{Scan}
 use Rattle.walk.specs.declared.Step.the-variants.{Next}
-use Rattle.walk.specs.Judging.{maxImage, followsOf, advancedOf, judgeOf, recordStep, moreOf}
+use Rattle.walk.specs.Judging.{maxImage, followsOf, advancedOf, judgeOf, recordStep, goesOn, moreOf}
 use Rattle.walk.specs.Walk.{walkOf}
 use Rattle.walk.specs.Records.{recordsFrom, over, Plain}
-use Rattle.walk.proofs.Judging.{judge-next, not-cut, follows-suc}
+use Rattle.walk.proofs.Judging.{more-inside-goes, judge-next, not-cut, follows-suc}
 use Rattle.walk.proofs.Walk.{walk-more}
 
 -- the place behind a record that stands behind whole pages
@@ -36,10 +37,9 @@ module _ (pre : List ℕ) (id : ℕ) (p post : List ℕ) (w : Scan) (at : w .pos
       length-append pre (recordBytes id p ++ post)
       ∙ ap (λ (k : ℕ). length pre + k) (length-append (recordBytes id p) post ∙ ap (λ (k : ℕ). k + length post) (record-length id p))
 
-  -- there is one more record
-  pub more-record : moreOf w (length img) ≡ true
-  unfolding moreOf
-  more-record = lt-ltb (w .pos) (length img) (omega (arith, image-length, room-ge (length p)))
+  -- there is one more record, where the walk goes on
+  pub more-record : goesOn w ≡ true → moreOf w (length img) ≡ true
+  more-record h = more-inside-goes w (length img) h (omega (arith, image-length, room-ge (length p)))
 
   -- its step goes on, where its id follows and its bytes lie in the first 2^31
   pub step-record : (s e : ℕ) → length p ≤ maxPayload → id < 2 ^ 64 → followsOf (w .last) id ≡ true
@@ -75,20 +75,39 @@ module _ (f : ℕ → List ℕ) where
     unfolding advancedOf
     on-follows w a = follows-suc a
 
-    -- the place behind them
-    pub over-place : (n : ℕ) (w : Scan) (a : ℕ) → w .pos % 4096 ≡ 0 → over f s e w a n .pos ≡ w .pos + length (recordsFrom f a n)
-    unfolding over recordsFrom
-    over-place zero w a h = sym (add-zero (w .pos))
-    over-place (suc n) w a h =
-        over-place n (on w a) (suc a) (on-whole w a) ∙ omega (arith, on-place w a h, from-length a n)
+    -- one record more, where the walk goes on; else it has stopped
+    pub over-more : (n : ℕ) (w : Scan) (a : ℕ) → goesOn w ≡ true → over f s e w a (suc n) ≡ over f s e (on w a) (suc a) n
+    unfolding over
+    over-more n w a h = simp h
 
-    -- OVER RECORDS FOLLOWED BY ANYTHING: the walk goes on from the state after them
+    pub over-stopped : (n : ℕ) (w : Scan) (a : ℕ) → goesOn w ≡ false → over f s e w a n ≡ w
+    unfolding over
+    over-stopped zero w a h = refl
+    over-stopped (suc n) w a h = simp h
+
+    -- the place behind them, where the walk goes on there
+    pub over-place : (n : ℕ) (w : Scan) (a : ℕ) → w .pos % 4096 ≡ 0 → goesOn (over f s e w a n) ≡ true
+        → over f s e w a n .pos ≡ w .pos + length (recordsFrom f a n)
+    unfolding over recordsFrom
+    over-place zero w a h g = sym (add-zero (w .pos))
+    over-place (suc n) w a h g =
+        by-test (goesOn w)
+        (λ k.
+        let more = over-more n w a k in
+        ap (λ (d : Scan). d .pos) more
+        ∙ over-place n (on w a) (suc a) (on-whole w a) (ap goesOn (sym more) ∙ g)
+        ∙ omega (arith, on-place w a h, from-length a n))
+        (λ k. both-ways (goesOn w) (ap goesOn (sym (over-stopped (suc n) w a k)) ∙ g) k)
+
+    -- OVER RECORDS FOLLOWED BY ANYTHING: the walk is that from the state after them
     pub walk-records : (n : ℕ) (pre post : List ℕ) (a : ℕ) (w : Scan) → w .pos % 4096 ≡ 0 → w .pos ≡ length pre → Plain f a n
-        → followsOf (w .last) a ≡ true → length pre + length (recordsFrom f a n) ≤ maxImage
+        → (goesOn w ≡ true → followsOf (w .last) a ≡ true) → length pre + length (recordsFrom f a n) ≤ maxImage
         → walkOf (pre ++ (recordsFrom f a n ++ post)) s e w ≡ walkOf (pre ++ (recordsFrom f a n ++ post)) s e (over f s e w a n)
     unfolding over recordsFrom
     walk-records zero pre post a w whole at plain g room = refl
     walk-records (suc n) pre post a w whole at plain g room =
+        by-test (goesOn w)
+        (λ h.
         let here : List ℕ = recordBytes a (f a) in
         let rest : List ℕ = recordsFrom f (suc a) n ++ post in
         let one : pre ++ (recordsFrom f a (suc n) ++ post) ≡ pre ++ (here ++ rest) =
@@ -99,10 +118,12 @@ module _ (f : ℕ → List ℕ) where
         let small : length (f a) ≤ maxPayload = plain .small a (omega arith) (omega arith) in
         let all = from-length a n in
         ap (λ (l : List ℕ). walkOf l s e w) one
-        ∙ walk-more (length (pre ++ (here ++ rest))) (headerAt (pre ++ (here ++ rest))) s e w (on w a) (more-record pre a (f a) rest w at)
-        (step-record pre a (f a) rest w at s e small (omega (arith, plain .ids)) g (omega arith))
+        ∙ walk-more (length (pre ++ (here ++ rest))) (headerAt (pre ++ (here ++ rest))) s e w (on w a) (more-record pre a (f a) rest w at h)
+        (step-record pre a (f a) rest w at s e small (omega (arith, plain .ids)) (g h) (omega arith))
         ∙ ap (λ (l : List ℕ). walkOf l s e (on w a)) two
         ∙ walk-records n (pre ++ here) post (suc a) (on w a) (on-whole w a) (omega (arith, on-place w a whole))
-        (record { small = λ i l u. plain .small i (omega arith) (omega arith); ids = omega (arith, plain .ids) }) (on-follows w a)
+        (record { small = λ i l u. plain .small i (omega arith) (omega arith); ids = omega (arith, plain .ids) }) (λ _. on-follows w a)
         (omega arith)
         ∙ ap (λ (l : List ℕ). walkOf l s e (over f s e (on w a) (suc a) n)) (sym (one ∙ two))
+        ∙ ap (walkOf (pre ++ (recordsFrom f a (suc n) ++ post)) s e) (sym (over-more n w a h)))
+        (λ h. ap (walkOf (pre ++ (recordsFrom f a (suc n) ++ post)) s e) (sym (over-stopped (suc n) w a h)))

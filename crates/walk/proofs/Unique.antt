@@ -4,6 +4,7 @@ use Rattle.lists.proofs.Unique.{unique}
 use Rattle.walk.proofs.start.Reads as start
 use Rattle.walk.proofs.opened.Reads as opened
 use Rattle.walk.proofs.next_image.Reads as next-image
+use Rattle.walk.proofs.goes_on.Reads as goes-on
 use Rattle.walk.proofs.more.Reads as more
 use Rattle.walk.proofs.record_at.Reads as record-at
 use Rattle.walk.proofs.is_live.Reads as is-live
@@ -19,6 +20,9 @@ opened-unique κs a r r′ e e′ = unique
 
 pub next-image-unique : UniqueAnswer next-image.Learnt
 next-image-unique κs a r r′ e e′ = unique
+
+pub goes-on-unique : UniqueAnswer goes-on.Learnt
+goes-on-unique κs a r r′ e e′ = unique
 
 pub more-unique : UniqueAnswer more.Learnt
 more-unique κs a r r′ e e′ = unique

@@ -14,9 +14,9 @@ use Rattle.walk.specs.declared.Step.{Step}
 use Rattle.walk.specs.declared.Step.the-variants.{Next, Fault}
 use Rattle.walk.specs.declared.Walked.{Walked}
 use Rattle.walk.specs.declared.Walked.the-variants.{Ended, Faulted}
-use Rattle.walk.specs.Judging.{judgeOf, moreOf}
+use Rattle.walk.specs.Judging.{judgeOf, goesOn, moreOf}
 use Rattle.walk.specs.Walk.{route, walkTurn, walkBy}
-use Rattle.walk.proofs.Judging.{StepFault, step-moves, step-number, more-inside}
+use Rattle.walk.proofs.Judging.{StepFault, step-moves, step-number, more-going, more-inside}
 
 module _ (size : ℕ) (read : ℕ → HeaderAnswer) (s e : ℕ) where
   -- the step at a state's place
@@ -89,4 +89,11 @@ module _ (size : ℕ) (read : ℕ → HeaderAnswer) (s e : ℕ) where
   walk-number w z m =
       walk-ind (λ _ a. a ≡ Faulted m z → StepFault m) (λ w d a h t p. p)
       (λ w n h t q. let same : n ≡ m = cc in step-number size s e w (read (w .pos)) m (rw same at t))
+      (λ w h q. zero-is-not-one (cc)) w
+
+  -- where a fault stands the walk went on: e's record is not read before it
+  pub walk-fault-going : (w z : Scan) (m : ℕ) → walkBy size read s e w ≡ Faulted m z → goesOn z ≡ true
+  walk-fault-going w z m =
+      walk-ind (λ _ a. a ≡ Faulted m z → goesOn z ≡ true) (λ w d a h t p. p)
+      (λ w n h t q. let same : w ≡ z = cc in rw (← same) (more-going w size h))
       (λ w h q. zero-is-not-one (cc)) w

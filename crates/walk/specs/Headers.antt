@@ -1,5 +1,5 @@
--- "The headers walked": by the places in an image of the headers that its walk comes to; and the statement, cited by docs/PROMISES.md,
--- that a walk depends on these and on the image's size alone. Proof: proofs/Headers.antt. Assumes nothing.
+-- "The headers walked": by the places in an image of the headers that its walk comes to, none behind e's record; and the statement, cited
+-- by docs/PROMISES.md, that a walk depends on these and on the image's size alone. Proof: proofs/Headers.antt. Assumes nothing.
 use mathlib.Core.Path.{_≡_}
 use mathlib.Core.Bool.{false}
 use Prim.Native.Nat.{ℕ}
@@ -11,7 +11,7 @@ use Rattle.walk.specs.Walk.{walkBy}
 
 -- P holds of the place of each header that the walk reads, from a state on
 pub data EachHeader (P : ℕ → Type 0) (size : ℕ) (read : ℕ → HeaderAnswer) (s e : ℕ) : Scan → Type 0 where
-  -- the image has ended
+  -- the image has ended, or e's record is read
   image-over : {w : Scan} → moreOf w size ≡ false → EachHeader P size read s e w
   -- twelve bytes do not fit, and none is read
   header-short : {w : Scan} → headerFits size (w .pos) ≡ false → EachHeader P size read s e w

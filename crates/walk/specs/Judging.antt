@@ -1,5 +1,6 @@
 -- One record of the walk, in document 01's words: "12 header bytes must fit; length is checked, then sequence; a record with
--- s <= id <= e must have its payload inside the size, another is skipped; the next position is the padded end". Assumes nothing.
+-- s <= id <= e must have its payload inside the size, another is skipped; the next position is the padded end"; and where the walk stops,
+-- in those of document 02's Ask 1 (`goesOn`). Assumes nothing.
 use mathlib.Core.List.{List, [], _∷_}
 use mathlib.Core.Bool.{Bool, true, false, _&&_, _||_, not}
 use Prim.Native.Nat.{ℕ, _+_}
@@ -90,13 +91,17 @@ advancedOf w s e len id = passedOf w s e (placedOf (w .pos) len id)
 
 -- ---- one more record, one more image
 
--- "while the position is below the size": one more record in this image, of n bytes
-unfoldable pub moreOf : Scan → ℕ → Bool
-moreOf w n = ltb (w .pos) n
+-- "the walk stops once e's record is read: the rest of that image and all later images are not looked at"
+unfoldable pub goesOn : Scan → Bool
+goesOn w = not (w .«found_e»)
 
--- "image of size above 0 directly after one of size 0"
+-- "while the position is below the size": one more record in this image, of n bytes, where the walk goes on
+unfoldable pub moreOf : Scan → ℕ → Bool
+moreOf w n = goesOn w && ltb (w .pos) n
+
+-- "image of size above 0 directly after one of size 0", where the walk goes on
 unfoldable pub gapOf : Scan → ℕ → Bool
-gapOf w n = w .gap && ltb 0 n
+gapOf w n = goesOn w && (w .gap && ltb 0 n)
 
 -- before the first image
 abbrev pub startOf : Scan

@@ -1,4 +1,5 @@
--- The walk of one image: its records from a state on, up to the image's end or the first fault. Laws: proofs/Walk.antt. Assumes nothing.
+-- The walk of one image: its records from a state on, up to e's record, the image's end or the first fault. Laws: proofs/Walk.antt.
+-- Assumes nothing.
 use mathlib.Core.List.{List}
 use mathlib.Core.Bool.{_&&_}
 use Prim.Native.Nat.{ℕ, _+_, _-_}
@@ -20,7 +21,7 @@ abbrev pub route : Scan → Step → Turn Scan Walked
 route w (Next d) = again d
 route w (Fault n) = stop (Faulted n w)
 
--- one turn, in an image of `size` bytes whose headers `read` answers: at the image's end the state is the answer
+-- one turn, in an image of `size` bytes whose headers `read` answers: where no record is to be read the state is the answer
 unfoldable pub walkTurn : ℕ → (ℕ → HeaderAnswer) → (s e : ℕ) → Scan → Turn Scan Walked
 walkTurn size read s e w = pick (moreOf w size) (route w (judgeOf size s e w (read (w .pos)))) (stop (Ended w))
 

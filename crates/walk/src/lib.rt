@@ -2,7 +2,7 @@
 // of the image (parts.rt), and the walk of one image, which keeps the state at which a fault stands. Recovery's two passes, prune recent's
 // search and whatever else reads images run on these. No function asks anything of its arguments.
 ghost use mathlib.Core.Path.{_≡_};
-ghost use Rattle.walk.specs.Judging.{recordAt, liveOf, judgeOf, recordStep, startOf, openedOf, nextImage, moreOf};
+ghost use Rattle.walk.specs.Judging.{recordAt, liveOf, judgeOf, recordStep, startOf, openedOf, nextImage, goesOn, moreOf};
 ghost use Rattle.walk.specs.Walk.{walkOf};
 use record::HeaderAnswer;
 
@@ -52,7 +52,7 @@ pub enum Step {
     Fault(u32),
 }
 
-// The walk of an image: the state at its end; or the first fault's number, and the state at which it stands.
+// The walk of an image: the state at its end or behind e's record; or the first fault's number, and the state at which it stands.
 pub enum Walked {
     Ended(Scan),
     Faulted(u32, Scan),
@@ -98,11 +98,18 @@ pub fn next_image(state: Scan, size: u64) -> Step
     Step::Next(opened(state, size))
 }
 
-// Whether the image, of `size` bytes, has one more record at the state's place.
+// Whether the walk goes on: it stops once e's record is read.
+pub fn goes_on(state: Scan) -> bool
+    ensures { λ r. ⌜ r ≡ goesOn state ⌝ }
+{
+    !state.found_e
+}
+
+// Whether the image, of `size` bytes, has one more record to read at the state's place.
 pub fn more(state: Scan, size: u64) -> bool
     ensures { λ r. ⌜ r ≡ moreOf state size ⌝ }
 {
-    state.pos < size
+    goes_on(state) & (state.pos < size)
 }
 
 // The record whose header was read at `pos` of an image of `size` bytes: 17 where twelve bytes do not fit, 18 where it is too long.
@@ -147,7 +154,7 @@ pub fn record_step(img: &[u8], s: u64, e: u64, state: Scan) -> Step
     judge(img.len() as u64, s, e, state, answer)
 }
 
-// The records of an image from a state on: up to its end, or to the first fault. From the front: `next_image` first.
+// The records of an image from a state on: up to its end, e's record or the first fault. From the front: `next_image` first.
 pub fn walk_image(img: &[u8], s: u64, e: u64, state: Scan) -> Walked
     ensures { λ r. ⌜ r ≡ walkOf (now (img .entry)) s e state ⌝ }
 {

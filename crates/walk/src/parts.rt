@@ -8,6 +8,7 @@ use crate::Placed;
 use crate::RecordAnswer;
 use crate::Scan;
 use crate::Step;
+use crate::goes_on;
 use crate::is_live;
 use lists::same;
 use record::RecordHeader;
@@ -109,9 +110,9 @@ pub(crate) fn judge_record(size: u64, s: u64, e: u64, state: Scan, found: Placed
 
 // ---- one more image
 
-// Whether an image of `size` bytes stands directly after one of size 0, and is not of size 0 itself.
+// Whether an image of `size` bytes stands directly after one of size 0, and is not of size 0 itself; behind e's record nobody looks.
 pub(crate) fn gapped(state: Scan, size: u64) -> bool
     ensures { λ r. ⌜ r ≡ gapOf state size ⌝ }
 {
-    state.gap & (0 < size)
+    goes_on(state) & (state.gap & (0 < size))
 }
