@@ -1,7 +1,8 @@
 // What a folder of segment images holds: list_images FOLDER PREFIX [S E] <NAMES
 // NAMES are the folder's names that begin with the prefix, a line each: `file NAME`, or `other NAME` where it is no file. `./iflughan list`
 // makes them. Recovers S..E, or all records where no range is given, and writes the images, specimen 13's lines and, last, `ok` or
-// `refused`. `ok` is said only where each name was a segment's, its file was read whole and the library accepted it. Nothing is changed.
+// `refused`. `ok` is said only where each name was a segment's, its file was read whole and the library accepted it. As the library does, it
+// looks at nothing behind record E; where something stands there, the lines say so. Nothing is changed.
 mod arguments;
 mod files;
 mod images;
@@ -10,6 +11,7 @@ mod lines;
 
 use arguments::Range;
 use image_rows::Rows;
+use images::Walked;
 use libc::STDIN_FILENO;
 use libc::STDOUT_FILENO;
 
@@ -27,8 +29,8 @@ pub(crate) fn named(word: &[u8], v: u64) {
     io::print_decimal(STDOUT_FILENO, v);
 }
 
-// Recovers s..e from the images in the area, and lists what they hold.
-fn list(area: &mut [u8], c: u64, rows: Rows, s: u64, e: u64) {
+// Recovers s..e from the images in the area, and lists what they hold; `stopped` where something stands behind e.
+fn list(area: &mut [u8], c: u64, rows: Rows, s: u64, e: u64, stopped: bool) {
     let mut index = [0u64; 512];
     let k = rows.count as u64;
     let recovered = recovery::recover(k, c, c, area, rows, s, e, &mut index);
@@ -46,7 +48,26 @@ fn list(area: &mut [u8], c: u64, rows: Rows, s: u64, e: u64) {
     say(slices::front(&lines, end));
     named(b"ok", recovered.rows);
     named(b" records in", k);
-    say(b" images\n");
+    say(b" images");
+    if stopped {
+        named(b"; nothing behind record", e);
+        say(b" was looked at");
+    }
+    say(b"\n");
+}
+
+// The last line where an image has a fault. Who gave no range is told the one that ends before it.
+fn say_refused(whole: Walked, range: Range) {
+    named(b"refused", whole.refusal as u64);
+    say(b" in the image said above");
+    if !range.given & (whole.records != 0) {
+        named(
+            b"; what stands before it is listed with the range",
+            whole.first,
+        );
+        named(b"", whole.last);
+    }
+    say(b"\n");
 }
 
 // Reads the images into the slots of the area's part that they need, walks each, and lists what they hold.
@@ -65,15 +86,14 @@ fn list_judged(folder: &[u8], names: &[u8], rows: Rows, range: Range, area: &mut
     }
     let whole = images::walk(names, rows, range, used, c);
     if whole.refusal != 0 {
-        named(b"refused", whole.refusal as u64);
-        say(b" in the image said above\n");
+        say_refused(whole, range);
         return;
     }
     if range.given {
-        list(used, c, rows, range.start, range.end);
+        list(used, c, rows, range.start, range.end, whole.stopped);
         return;
     }
-    list(used, c, rows, whole.first, whole.last);
+    list(used, c, rows, whole.first, whole.last, whole.stopped);
 }
 
 // Says what does not belong, or lists the images.

@@ -6,10 +6,10 @@ use Rattle.list_images.proofs.images.walk.Statement.{statement}
 use Rattle.list_images.proofs.images.walk.Tie as tie
 
 abbrev Inv-loop : tie.InvT-loop
-Inv-loop names range area c rows all₀ i₀ all i = i ≤ 64
+Inv-loop names range area c rows progress₀ i₀ progress i = i ≤ 64
 
 abbrev μ-loop : tie.MeasureT-loop
-μ-loop names range area c rows all₀ i₀ all i = 64 - i
+μ-loop names range area c rows progress₀ i₀ progress i = 64 - i
 
 pub walk-spec : {M : Type 1} → statement M
 walk-spec =
@@ -19,18 +19,10 @@ walk-spec =
     μ-loop
     (λ c κs. search needs)
     (λ c κs. search needs)
-    (λ c κs. search needs)
     (λ c. search needs)
     (λ c. search needs)
     (λ c. search needs)
     (λ c κs. search needs)
-    (λ c κs. search needs)
-    (λ c. search needs)
-    (λ c κs. search needs)
-    (λ c κs. search needs)
-    (λ c κs. search needs)
-    (λ c κs. search needs)
-    (λ c. search needs)
     (λ c. search needs)
     (λ c. search needs)
     (λ c. search needs)
