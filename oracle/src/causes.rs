@@ -4,9 +4,13 @@
 
 use crate::calls::Shape;
 use crate::departures::*;
-use crate::log_cases::{ids_in, SegmentFile};
+use crate::log_cases::{id_at, ids_in, length_at, SegmentFile};
 use crate::original;
-use crate::original_log::OriginalLog;
+use crate::original_log::{self, Folder, Opened, OriginalLog};
+
+const PAGE: u64 = 4096;
+const HEADER: u64 = 12;
+const LONGEST_PAYLOAD: u64 = 1 << 30;
 
 /// The original reads as this id a name that it would not write for it: a plus sign stands in the place of the first digit.
 pub fn of_plus_sign(prefix: &str, name: &str, id: u32) -> bool {
@@ -76,6 +80,120 @@ impl Opening<'_> {
     fn first_live(&self) -> Option<u64> {
         let first_met = || self.files.iter().flat_map(|file| ids_in(&file.bytes)).find(|id| *id >= self.range.0);
         self.delivered.first().map(|record| record.0).or_else(first_met)
+    }
+}
+
+/// What the original reads in its files: all of them to their end, beyond e too.
+#[derive(Default)]
+pub struct WholeWalk {
+    /// The first fault that document 01 names, 16 to 20.
+    pub fault: Option<u32>,
+    /// The first one that the original has a test for behind e, which ends its walk: 17, 18, or 19 inside a file.
+    pub tested: Option<u32>,
+    /// The file of e's record and the record's padded end, where no fault stands before.
+    end_of_e: Option<(usize, u64)>,
+}
+
+impl WholeWalk {
+    pub fn of(files: &[SegmentFile], range: (u64, u64)) -> WholeWalk {
+        let mut walk = WholeWalk::default();
+        let mut last = None;
+        for (place, file) in files.iter().enumerate() {
+            if place > 0 && files[place - 1].bytes.is_empty() && !file.bytes.is_empty() {
+                walk.meets(16);
+            }
+            walk.tested = walk.file(place, &file.bytes, range, &mut last);
+            if let Some(number) = walk.tested {
+                walk.meets(number);
+                break;
+            }
+        }
+        walk
+    }
+
+    fn meets(&mut self, number: u32) {
+        self.fault = self.fault.or(Some(number));
+    }
+
+    /// One file, to its end or to the fault that the original sees in it. `last` is the record id before.
+    fn file(&mut self, place: usize, bytes: &[u8], (s, e): (u64, u64), last: &mut Option<u64>) -> Option<u32> {
+        let size = bytes.len() as u64;
+        let mut at = 0;
+        while at < size {
+            if size - at < HEADER {
+                return Some(17);
+            }
+            let (length, id) = (length_at(bytes, at as usize), id_at(bytes, at as usize));
+            if length > LONGEST_PAYLOAD {
+                return Some(18);
+            }
+            let follows = last.map_or(true, |last| id == last.wrapping_add(1));
+            if at > 0 && !follows {
+                return Some(19);
+            }
+            if id == 0 || !follows {
+                self.meets(19);
+            }
+            let end = at + HEADER + length;
+            if s <= id && id <= e && size < end {
+                self.meets(20);
+            }
+            at = end.div_ceil(PAGE) * PAGE;
+            if s <= id && id == e && self.fault.is_none() {
+                self.end_of_e = Some((place, at));
+            }
+            *last = Some(id);
+        }
+        None
+    }
+
+    /// Whether the first fault stands behind e's record: then ours does not meet it.
+    pub fn faulty_behind_e(&self) -> bool {
+        self.fault.is_some() && self.end_of_e.is_some()
+    }
+
+    /// Whether a recovery that stops at e may answer with this number of the walk.
+    pub fn allows(&self, number: u32) -> bool {
+        match number {
+            0 | 23 => self.end_of_e.is_some(),
+            16..=20 => self.end_of_e.is_none() && self.fault == Some(number),
+            21 => self.end_of_e.is_some() || self.fault.is_none(),
+            22 => self.end_of_e.is_none() && self.fault.is_none(),
+            _ => true,
+        }
+    }
+
+    /// Whether the original says this of what stands behind e: the first fault there that it has a test for, or nothing.
+    pub fn foretells(&self, refused_with: Option<u32>) -> bool {
+        self.end_of_e.is_none() || self.tested == refused_with
+    }
+
+    /// The files with nothing behind e's record: its file ends with its padding, as far as that is there, and later ones are gone. All of
+    /// them where a fault stands before e.
+    pub fn cut(&self, files: &[SegmentFile]) -> Vec<SegmentFile> {
+        let mut cut = files.to_vec();
+        if let Some((place, end)) = self.end_of_e {
+            cut.truncate(place + 1);
+            cut[place].bytes.truncate(end as usize);
+        }
+        cut
+    }
+
+    /// What the original makes of its files. Where it refuses with the fault that stands behind e, that number, and what it makes of the
+    /// files cut there: it must have delivered the same before.
+    pub fn open(&self, folder: &Folder, files: &[SegmentFile], soft_size: u64, (s, e): (u64, u64)) -> (Opened, Option<u32>) {
+        let opened = original_log::open(folder, soft_size, s, e);
+        let number = match opened.log {
+            Err(number) if self.faulty_behind_e() && self.tested == Some(number) => number,
+            _ => return (opened, None),
+        };
+        folder.write_all(&self.cut(files));
+        let again = original_log::open(folder, soft_size, s, e);
+        if again.delivered == opened.delivered {
+            (again, Some(number))
+        } else {
+            (opened, None)
+        }
     }
 }
 

@@ -1,4 +1,4 @@
-//! The departures from the original that document 01 and its readings name, each a row of docs/DIFFERENCES.md.
+//! The departures from the original that documents 01 and 02 and their readings name, each a row of docs/DIFFERENCES.md.
 //! A comparison may explain a case by one of these alone.
 
 #[derive(Debug)]
@@ -37,6 +37,7 @@ departures! {
     EMPTY_BETWEEN "empty-between" "16: the Rust reads on after an empty segment";
     SEQUENCE "sequence" "19: the Rust tests the sequence inside one segment only, takes record id 0, and its ids wrap";
     STARTS_ABOVE "starts-above" "21: where the first record is above s the Rust starts there";
+    BEHIND_E "behind-e" "the Rust reads all images to their end and refuses with what it meets behind e's record; ours does not look there";
     DELIVERS_FIRST "delivers-first" "the Rust hands records to its callback before it refuses; ours delivers nothing then";
     DELETES_FIRST "deletes-first" "the Rust deletes segments before it refuses; ours changes nothing then";
     STRAY_NAME "stray-name" "a file whose name only begins with the prefix stops the Rust's open; ours is given rows";

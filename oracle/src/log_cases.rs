@@ -121,10 +121,13 @@ pub fn synthetic(rng: &mut Rng, shape: Shape) -> Vec<SegmentFile> {
     files
 }
 
+fn header(length: u64, id: u64) -> Vec<u8> {
+    [&(length as u32).to_le_bytes()[..], &id.to_le_bytes()].concat()
+}
+
 fn add_record(rng: &mut Rng, bytes: &mut Vec<u8>, id: u64, length: usize) {
     let start = bytes.len();
-    bytes.extend_from_slice(&(length as u32).to_le_bytes());
-    bytes.extend_from_slice(&id.to_le_bytes());
+    bytes.extend(header(length as u64, id));
     bytes.resize(start + 12 + length, rng.next() as u8);
     bytes.resize(start + padded(12 + length as u64) as usize, if rng.once_in(8) { 0xDD } else { 0 });
 }
@@ -141,13 +144,13 @@ fn some_record(rng: &mut Rng, bytes: &[u8]) -> Option<usize> {
     }
 }
 
-fn id_at(bytes: &[u8], at: usize) -> u64 {
+pub fn id_at(bytes: &[u8], at: usize) -> u64 {
     let mut word = [0; 8];
     word.copy_from_slice(&bytes[at + 4..at + 12]);
     u64::from_le_bytes(word)
 }
 
-fn length_at(bytes: &[u8], at: usize) -> u64 {
+pub fn length_at(bytes: &[u8], at: usize) -> u64 {
     u32::from_le_bytes([bytes[at], bytes[at + 1], bytes[at + 2], bytes[at + 3]]) as u64
 }
 
@@ -244,6 +247,165 @@ pub fn damage(rng: &mut Rng, files: &mut Vec<SegmentFile>) {
                 bytes[at] ^= 1 << rng.below(8);
             }
         }
+    }
+}
+
+/// The accident of document 02: records 1 and 2, and five bytes of the header of record 3.
+pub fn accident(rng: &mut Rng) -> SegmentFile {
+    let mut bytes = Vec::new();
+    add_record(rng, &mut bytes, 1, 0);
+    add_record(rng, &mut bytes, 2, 3);
+    bytes.extend_from_slice(&header(40, 3)[..5]);
+    SegmentFile { id: 1, bytes }
+}
+
+/// A record among the images: its file, its place there, its padded end and its id.
+struct Chosen {
+    file: usize,
+    at: usize,
+    end: usize,
+    id: u64,
+}
+
+fn chosen(rng: &mut Rng, files: &[SegmentFile]) -> Option<Chosen> {
+    let with_records: Vec<usize> = (0..files.len()).filter(|file| !files[*file].bytes.is_empty()).collect();
+    let file = *with_records.get(rng.below(with_records.len().max(1) as u64) as usize)?;
+    let bytes = &files[file].bytes;
+    let at = some_record(rng, bytes)?;
+    Some(Chosen { file, at, end: padded(at as u64 + 12 + length_at(bytes, at)) as usize, id: id_at(bytes, at) })
+}
+
+/// Images with something at fault behind one of their records, or close before it; and a range that ends with that record.
+pub fn around_e(rng: &mut Rng, shape: Shape, files: &mut Vec<SegmentFile>) -> (u64, u64) {
+    let mut e = match chosen(rng, files) {
+        None => return range(rng, ids_shown(files)),
+        Some(e) => e,
+    };
+    let mut before: Vec<u64> = files[..e.file].iter().flat_map(|file| ids_in(&file.bytes)).collect();
+    before.extend(ids_in(&files[e.file].bytes[..e.at]));
+    match rng.below(8) {
+        0 => fault_before(rng, files, &e),
+        1 => empty_behind(rng, shape, files, &e),
+        2 => {
+            // e is never met: the walk goes on to the torn tail.
+            torn_behind(rng, shape, files, &e);
+            before.push(e.id);
+            e.id = e.id.wrapping_add(rng.range(1, 2));
+        }
+        _ => {
+            let tail = tail(rng, e.id);
+            lay_behind(rng, shape, files, &e, &tail);
+        }
+    }
+    before.push(e.id);
+    let s = match rng.below(8) {
+        0 => before[0].saturating_sub(1).max(1),
+        1 | 2 => before[0],
+        _ => rng.pick_number(&before),
+    };
+    (s, e.id)
+}
+
+/// What may stand behind record `last`: part of a record that was being written, a record that does not belong there, no record at all.
+fn tail(rng: &mut Rng, last: u64) -> Vec<u8> {
+    let (mut bytes, mut next) = (Vec::new(), last.wrapping_add(1));
+    if rng.once_in(4) {
+        let length = small_length(rng) as usize;
+        add_record(rng, &mut bytes, next, length);
+        next = next.wrapping_add(1);
+    }
+    match rng.below(7) {
+        0 => bytes.extend_from_slice(&header(40, next)[..rng.pick_number(&[1, 4, 5, 5, 11]) as usize]),
+        1 => bytes.extend_from_slice(&header(rng.below(600), next)[..rng.range(1, 11) as usize]),
+        2 => {
+            let length = rng.range(1, 600);
+            bytes.extend(header(length, next));
+            bytes.resize(bytes.len() + rng.below(length) as usize, 0x77);
+        }
+        3 => bytes.extend(header(rng.pick_number(&[GIBIBYTE + 1, (1 << 32) - 1]), next)),
+        4 => {
+            let id = rng.pick_number(&[0, 1, last, last.wrapping_sub(1), next.wrapping_add(1), next ^ 1 << 32, u64::MAX]);
+            add_record(rng, &mut bytes, id, 3);
+        }
+        5 => {
+            let length = rng.range(12, 600);
+            bytes.extend(rng.bytes(length as usize));
+        }
+        _ => bytes.resize(bytes.len() + rng.range(1, 2 * PAGE) as usize, rng.pick_number(&[0, 0xFF]) as u8),
+    }
+    bytes
+}
+
+/// Lays the tail behind e: into its image, in place of what follows there, or over the next image. As much of it as fits.
+fn lay_behind(rng: &mut Rng, shape: Shape, files: &mut Vec<SegmentFile>, e: &Chosen, tail: &[u8]) {
+    let (room, next) = (shape.c as usize - e.end, e.file + 1);
+    if room > 0 && rng.once_in(2) {
+        let bytes = &mut files[e.file].bytes;
+        bytes.resize(e.end, 0);
+        bytes.extend_from_slice(&tail[..tail.len().min(room)]);
+        if rng.once_in(2) {
+            files.truncate(next);
+        }
+        return;
+    }
+    if rng.once_in(4) {
+        // e's own padding may be missing.
+        let bytes = &mut files[e.file].bytes;
+        let payload_end = (e.at as u64 + 12 + length_at(bytes, e.at)) as usize;
+        bytes.truncate(rng.range(payload_end as u64, e.end as u64) as usize);
+    }
+    if next == files.len() && (next as u64) < shape.k {
+        files.push(SegmentFile { id: files[e.file].id.wrapping_add(1), bytes: Vec::new() });
+    }
+    if let Some(file) = files.get_mut(next) {
+        file.bytes = tail[..tail.len().min(shape.c as usize)].to_vec();
+    }
+}
+
+/// One to eleven bytes of a header behind e, and nothing else: in its image, or in the next one where it is full.
+fn torn_behind(rng: &mut Rng, shape: Shape, files: &mut Vec<SegmentFile>, e: &Chosen) {
+    let torn = &header(40, e.id.wrapping_add(1))[..rng.range(1, 11) as usize];
+    files.truncate(e.file + 1);
+    let bytes = &mut files[e.file].bytes;
+    bytes.resize(e.end, 0);
+    if e.end < shape.c as usize {
+        bytes.extend_from_slice(torn);
+    } else if (files.len() as u64) < shape.k {
+        files.push(SegmentFile { id: files[e.file].id.wrapping_add(1), bytes: torn.to_vec() });
+    }
+}
+
+/// Empty images behind e's, and full ones after them; the last one may be torn.
+fn empty_behind(rng: &mut Rng, shape: Shape, files: &mut Vec<SegmentFile>, e: &Chosen) {
+    files.truncate(e.file + 1);
+    let (mut id, mut record) = (files[e.file].id, e.id);
+    for full in [false, rng.once_in(2), true] {
+        let mut bytes = Vec::new();
+        id = id.wrapping_add(1);
+        if full {
+            record = record.wrapping_add(1);
+            add_record(rng, &mut bytes, record, 3);
+            bytes.truncate(rng.pick_number(&[PAGE, PAGE, 5]) as usize);
+        }
+        if (files.len() as u64) < shape.k {
+            files.push(SegmentFile { id, bytes });
+        }
+    }
+}
+
+/// A fault that the walk meets before e's record is read: an empty image before its own, or in the record itself.
+fn fault_before(rng: &mut Rng, files: &mut Vec<SegmentFile>, e: &Chosen) {
+    let bytes = &mut files[e.file].bytes;
+    match rng.below(5) {
+        0 => bytes.truncate(e.at + rng.range(1, 11) as usize),
+        1 => bytes.truncate((e.at as u64 + 12 + rng.below(length_at(bytes, e.at).max(1))) as usize),
+        2 => bytes[e.at..e.at + 4].copy_from_slice(&((GIBIBYTE + 1) as u32).to_le_bytes()),
+        3 => {
+            let id = rng.pick_number(&[0, e.id.wrapping_add(1), e.id.wrapping_sub(1), e.id ^ 1 << 32]);
+            bytes[e.at + 4..e.at + 12].copy_from_slice(&id.to_le_bytes());
+        }
+        _ if e.file > 0 => files[e.file - 1].bytes.clear(),
+        _ => (),
     }
 }
 

@@ -1,5 +1,6 @@
-//! A small model of document 01's log: what append, the prunes and recovery answer, and what stands in the area and the index after them.
-//! Ours is held to it on every call. A refusal names its row of docs/DIFFERENCES.md where the original has no such test at that place.
+//! A small model of document 01's log, its recovery as document 02's Ask 1 has it: what append, the prunes and recovery answer, and what
+//! stands in the area and the index after them. Ours is held to it on every call. A refusal names its row of docs/DIFFERENCES.md where the
+//! original has no such test at that place.
 
 use crate::calls::{Shape, NO_LOG, NO_SEGMENT};
 use crate::departures::*;
@@ -205,7 +206,7 @@ fn with_segments(log: &Log, segments: &[Segment], start_live: u64, end_live: u64
     next
 }
 
-/// What one image shows to the walk.
+/// What one image shows to the walk, up to e's record.
 struct Scan {
     live: bool,
     min: u64,
@@ -214,7 +215,7 @@ struct Scan {
     end: Option<u64>,
 }
 
-/// The walk over all images: the last id met, the first one, and the rows of the live records.
+/// The walk over the images, up to e's record: the first id met, the last one, and the rows of the live records.
 struct Walk {
     first: Option<u64>,
     last: Option<u64>,
@@ -279,9 +280,13 @@ fn checked_rows(shape: Shape, images: &[Image]) -> Result<Vec<Image>, Refusal> {
     Ok(sorted)
 }
 
+/// "The walk stops once e's record is read: the rest of that image and all later images are not looked at." Those have no scan.
 fn walk_images(shape: Shape, area: &[u8], sorted: &[Image], range: (u64, u64), walk: &mut Walk) -> Result<Vec<Scan>, Refusal> {
-    let mut scans = Vec::new();
+    let mut scans: Vec<Scan> = Vec::new();
     for (at, image) in sorted.iter().enumerate() {
+        if scans.last().map_or(false, |scan| scan.end.is_some()) {
+            break;
+        }
         if at > 0 && image.size > 0 && sorted[at - 1].size == 0 {
             return refuse_alone(16, &EMPTY_BETWEEN);
         }
@@ -294,7 +299,7 @@ fn walk_images(shape: Shape, area: &[u8], sorted: &[Image], range: (u64, u64), w
 fn walk_image(image: &[u8], slot: u32, (s, e): (u64, u64), walk: &mut Walk) -> Result<Scan, Refusal> {
     let mut scan = Scan { live: false, min: 0, max: 0, end: None };
     let mut at = 0;
-    while at < image.len() as u64 {
+    while at < image.len() as u64 && scan.end.is_none() {
         let (length, id) = match header(image, at) {
             None => return refuse(17),
             Some((length, _)) if length > LONGEST_PAYLOAD => return refuse(18),

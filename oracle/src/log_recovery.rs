@@ -2,14 +2,14 @@
 //! Compared: acceptance, number of the refusal, log, index rows, payloads delivered, and every lent byte and word.
 
 use crate::calls::{self, Shape, NO_LOG, NO_PART};
-use crate::causes::Opening;
+use crate::causes::{Opening, WholeWalk};
 use crate::departures::*;
 use crate::ffi::{Image, Log, Part};
 use crate::lent::Lent;
-use crate::log_cases::{damage, ids_shown, range, shuffle, soft_size, synthetic, SegmentFile};
+use crate::log_cases::{around_e, damage, ids_shown, range, shuffle, soft_size, synthetic, SegmentFile};
 use crate::log_model::{self as model, listed, Refusal};
 use crate::logs::{After, History, Step};
-use crate::original_log::{self, Opened};
+use crate::original_log::Opened;
 use crate::rng::Rng;
 
 /// The original is not run on images that may make it ask for more than this.
@@ -25,8 +25,6 @@ struct Given {
     area: Vec<u8>,
     images: Vec<Image>,
     folder: usize,
-    /// The largest payload length that the headers in that folder claim.
-    largest_claim: u64,
 }
 
 fn largest_claim(files: &[SegmentFile]) -> u64 {
@@ -49,8 +47,7 @@ impl History<'_> {
         let mut images: Vec<Image> = listed(&self.log).iter().map(|segment| image(segment.id, segment.slot, segment.size)).collect();
         shuffle(&mut self.rng, &mut images);
         let (shape, area) = (model::shape_of(&self.log), self.area.content().to_vec());
-        let given = Given { how: "in place", shape, area, images, folder: 0, largest_claim: largest_claim(&self.our_files()) };
-        self.recover(given, s, e)
+        self.recover(Given { how: "in place", shape, area, images, folder: 0 }, s, e)
     }
 
     /// Ours recovers from the original's files, the original from our images.
@@ -62,11 +59,25 @@ impl History<'_> {
         self.recover_files("crossed", &originals, &ours, s, e)
     }
 
-    /// Both recover from the same damaged images: of this log, or made up.
+    /// The images of this log, or made-up ones.
+    fn some_files(&mut self) -> Vec<SegmentFile> {
+        if self.log.count > 0 && self.rng.once_in(2) {
+            self.our_files()
+        } else {
+            synthetic(&mut self.rng, model::shape_of(&self.log))
+        }
+    }
+
+    /// Both recover from the same images, with a fault behind e's record or close before it.
+    pub fn recover_around_e(&mut self) -> After {
+        let mut files = self.some_files();
+        let (s, e) = around_e(&mut self.rng, model::shape_of(&self.log), &mut files);
+        self.recover_files("damaged", &files, &files, s, e)
+    }
+
+    /// Both recover from the same damaged images.
     pub fn recover_damaged(&mut self) -> After {
-        let shape = model::shape_of(&self.log);
-        let own = self.log.count > 0 && self.rng.once_in(2);
-        let mut files = if own { self.our_files() } else { synthetic(&mut self.rng, shape) };
+        let mut files = self.some_files();
         for _ in 0..self.rng.pick_number(&[0, 1, 1, 1, 1, 2, 3]) {
             damage(&mut self.rng, &mut files);
         }
@@ -95,7 +106,7 @@ impl History<'_> {
         }
         shuffle(&mut self.rng, &mut images);
         let how = if self.folders[1].write_all(originals) { how } else { NO_FOLDER };
-        let mut given = Given { how, shape, area, images, folder: 1, largest_claim: largest_claim(originals) };
+        let mut given = Given { how, shape, area, images, folder: 1 };
         if self.rng.once_in(40) {
             self.spoil_rows(&mut given);
         }
@@ -145,7 +156,8 @@ impl History<'_> {
         }
     }
 
-    /// Ours accepts: so must the original, with the same log and the same payloads.
+    /// Ours accepts: so must the original, with the same log and the same payloads; where it refuses for what stands behind e, it must from
+    /// the images cut there.
     fn accepted(&mut self, given: Given, log: Log, area: Lent<u8>, index: &[u64], (s, e): (u64, u64)) -> After {
         if given.how == NO_FOLDER {
             return self.departs("recover: accepted, rows that no folder gives", Some(&MEMORY), After::Together);
@@ -159,7 +171,10 @@ impl History<'_> {
             }
             payloads.push((row[0], area.content()[part.at as usize..(part.at + part.length) as usize].to_vec()));
         }
-        let opened = original_log::open(&self.folders[given.folder], given.shape.m, s, e);
+        let folder = &self.folders[given.folder];
+        let files = folder.files();
+        let whole = WholeWalk::of(&files, (s, e));
+        let (opened, refused_with) = whole.open(folder, &files, given.shape.m, (s, e));
         let original = match opened.log {
             Ok(log) => log,
             Err(number) => return self.differs(format!("recovery: ours accepts, the original refuses with {}", number)),
@@ -167,12 +182,26 @@ impl History<'_> {
         if payloads != opened.delivered {
             return self.differs("recovery: the original delivers other payloads".to_string());
         }
+        if s > 0 && !(whole.allows(0) && whole.foretells(refused_with)) {
+            return self.differs(format!("recovery: ours accepts, the original's files show {:?}", whole.fault));
+        }
         self.folders.swap(0, given.folder);
         self.model_area = area.content().to_vec();
         self.area = area;
         self.log = log;
         self.original = original;
-        self.alike(&format!("recover: accepted, {}{}", given.how, if s == 0 { ", range (0, 0)" } else { "" }))
+        match (refused_with, whole.fault) {
+            _ if s == 0 => self.alike(&format!("recover: accepted, {}, range (0, 0)", given.how)),
+            (None, None) => self.alike(&format!("recover: accepted, {}", given.how)),
+            (None, Some(number)) => self.alike(&format!("recover: accepted, {} behind e, where the Rust has no test", number)),
+            (Some(number), _) => match self.state_differs() {
+                Some(what) => self.differs(what),
+                None => {
+                    let class = format!("recover: accepted, the Rust refuses with {} behind e", number);
+                    self.departs(&class, Some(&BEHIND_E), After::Together)
+                }
+            },
+        }
     }
 
     /// Ours refuses: the original refuses alike, or a departure explains what it does.
@@ -186,21 +215,33 @@ impl History<'_> {
         }
         let folder = &self.folders[given.folder];
         let files = folder.files();
+        let whole = WholeWalk::of(&files, (s, e));
+        if !whole.allows(number) {
+            return self.differs(format!("recovery answers {}, the original's files show {:?} first", number, whole.fault));
+        }
         let explained = |departure: &&Departure, delivered: &[(u64, Vec<u8>)]| {
             number == 23 || Opening { range: (s, e), files: &files, delivered }.explains(departure)
         };
         let reads_images = ![11, 14, 15].contains(&number);
-        if reads_images && given.largest_claim > LARGEST_CLAIM {
+        if reads_images && largest_claim(&whole.cut(&files)) > LARGEST_CLAIM {
             let class = format!("recover: {}, rust not run: claims over 1 MiB", number);
             let known = departure.map_or(true, |departure| explained(&departure, &[]));
             return self.departs(&class, Some(&CLAIMED_LENGTH).filter(|_| known), After::Together);
         }
-        let Opened { log, delivered } = original_log::open(folder, given.shape.m, s, e);
+        let (Opened { log, delivered }, refused_with) = whole.open(folder, &files, given.shape.m, (s, e));
+        if reads_images && !whole.foretells(refused_with) {
+            return self.differs(format!("recovery: {}, the original passes by {:?} behind e", number, whole.tested));
+        }
         let deleted = folder.file_count() < files.len();
         let after = if given.folder == 0 { After::Apart } else { After::Together };
         let departure = departure.filter(|departure| explained(departure, &delivered));
+        let short = log.is_ok() && words < 4 * delivered.len() as u64;
+        if let Some(originals) = refused_with {
+            let departs_too = departure.is_some() && log.is_ok() && (number == 21 || short);
+            let class = format!("recover: {}, the Rust refuses with {} behind e", number, originals);
+            return self.departs(&class, Some(&BEHIND_E).filter(|_| departs_too), after);
+        }
         if number == 23 {
-            let short = log.is_ok() && words < 4 * delivered.len() as u64;
             return self.departs("recover: 23, the Rust accepts and delivers more", departure.filter(|_| short), after);
         }
         let originals = match log {

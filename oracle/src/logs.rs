@@ -96,7 +96,8 @@ impl<'a> History<'a> {
 
     fn step(&mut self) -> After {
         match self.rng.below(100) {
-            0..=49 => self.append(),
+            0..=44 => self.append(),
+            45..=49 => self.recover_around_e(),
             50..=57 => self.prune_oldest(),
             58..=67 => self.prune_recent(),
             68..=70 => self.prune_recent_over_altered_bytes(),
@@ -138,7 +139,7 @@ impl<'a> History<'a> {
     }
 
     /// What differs between the original's log with its files and our log with its slots.
-    fn state_differs(&self) -> Option<String> {
+    pub fn state_differs(&self) -> Option<String> {
         let ours: Vec<_> = listed(&self.log).iter().map(|segment| (segment.id, segment.min, segment.max)).collect();
         let originals = self.original.segments();
         if ours != originals {

@@ -83,6 +83,17 @@ fn refused_recovery(refusal: u32) -> Recovered {
     Recovered { refusal, reserved: 0, rows: 0, log: NO_LOG }
 }
 
+/// The log with the image behind its head, where there is one.
+fn with_one_more(mut answer: Recovered, images: &[Image]) -> Recovered {
+    let log = &mut answer.log;
+    let head = log.segments[(log.count as usize).saturating_sub(1)];
+    if let Some(next) = images.iter().find(|image| log.count > 0 && image.id == head.id + 1 && image.size > 0) {
+        log.segments[log.count as usize] = Segment { id: next.id, slot: next.slot, size: next.size, min: head.max, max: head.max };
+        log.count += 1;
+    }
+    answer
+}
+
 pub fn recover(shape: Shape, area: &mut [u8], images: &[Image], s: u64, e: u64, index: &mut [u64]) -> Recovered {
     if wrong("recovery_reads_past_its_rows") {
         read_outside(images, false);
@@ -94,7 +105,21 @@ pub fn recover(shape: Shape, area: &mut [u8], images: &[Image], s: u64, e: u64, 
         let words = index.len() % 65_536;
         return right::recover(shape, area, images, s, e, &mut index[..words]);
     }
+    if wrong("recovery_reads_on_behind_e") {
+        // No record is the last: the walk goes on to the end.
+        let whole = right::recover(shape, &mut area.to_vec(), images, s, u64::MAX, &mut []);
+        if (16..=19).contains(&whole.refusal) && (s == 0) == (e == 0) && s <= e {
+            return refused_recovery(whole.refusal);
+        }
+    }
     let answer = right::recover(shape, area, images, s, e, index);
+    if answer.refusal == 20 && wrong("recovery_stops_before_the_payload_of_e") {
+        let before_e = right::recover(shape, area, images, s, e - 1, index);
+        return if before_e.refusal == 0 { before_e } else { answer };
+    }
+    if answer.refusal == 0 && wrong("recovery_keeps_a_segment_behind_e") {
+        return with_one_more(answer, images);
+    }
     if answer.refusal == 0 && answer.rows > 64 && wrong("live_record_65_is_23") {
         return refused_recovery(23);
     }

@@ -1,4 +1,4 @@
-// Lines B and I: pieces of images laid into the area, and recoveries from image rows that the line gives.
+// Lines B, I and J: pieces of images laid into the area, and recoveries from image rows that the line gives.
 use crate::fields;
 use crate::logs;
 use crate::logs::Turn;
@@ -51,5 +51,11 @@ fn rows_of(digits: &[u8]) -> Rows {
 
 // I DD s e rows NN digest STATE
 pub(crate) fn recovered(line: &[u8], log: Log, area: &mut [u8]) -> Turn {
-    logs::recovery(line, log, area, rows_of(fields::word(line, 4)), 5)
+    let rows = rows_of(fields::word(line, 4));
+    logs::recovery(line, log, area, rows, fields::wanted(line, 5), 5)
+}
+
+// J DD s e rows NN digest STATE: NN is the original's refusal for what stands behind e; ours accepts.
+pub(crate) fn recovered_up_to_e(line: &[u8], log: Log, area: &mut [u8]) -> Turn {
+    logs::recovery(line, log, area, rows_of(fields::word(line, 4)), 0, 5)
 }

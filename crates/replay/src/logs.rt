@@ -158,9 +158,16 @@ fn all_delivered(log: Log, area: &[u8], index: &[u64], count: u64) -> u64 {
     sum
 }
 
-// A recovery of words 2 and 3, s and e, from these rows: NN in word i, the digest in the next, then STATE. Where it is refused the log
-// stays.
-pub(crate) fn recovery(line: &[u8], log: Log, area: &mut [u8], images: Rows, i: usize) -> Turn {
+// A recovery of words 2 and 3, s and e, from these rows, with the answer wanted: behind word i the digest, then STATE. Where it is refused
+// the log stays.
+pub(crate) fn recovery(
+    line: &[u8],
+    log: Log,
+    area: &mut [u8],
+    images: Rows,
+    wanted: u32,
+    i: usize,
+) -> Turn {
     if 60 < i {
         return Turn { good: false, log };
     }
@@ -169,7 +176,6 @@ pub(crate) fn recovery(line: &[u8], log: Log, area: &mut [u8], images: Rows, i: 
     let mut index = [0u64; 256];
     let s = fields::hex(fields::word(line, 2));
     let e = fields::hex(fields::word(line, 3));
-    let wanted = fields::wanted(line, i);
     let answer = recovery::recover(log.k, log.c, log.m, &mut *area, images, s, e, &mut index);
     if answer.refusal != 0 {
         return Turn {
@@ -188,5 +194,6 @@ pub(crate) fn recovery(line: &[u8], log: Log, area: &mut [u8], images: Rows, i: 
 
 // V DD s e NN digest STATE
 pub(crate) fn recovered(line: &[u8], log: Log, area: &mut [u8]) -> Turn {
-    recovery(line, log, area, listing::images_of(log), 4)
+    let images = listing::images_of(log);
+    recovery(line, log, area, images, fields::wanted(line, 4), 4)
 }

@@ -1,4 +1,4 @@
--- `replay::total`: eleven counts.
+-- `replay::total`: twelve counts.
 -- Assumes nothing.
 use Prim.Native.Nat.{_≤_, _-_}
 use borrow.Author.Needs.{needs}
@@ -6,10 +6,10 @@ use Rattle.replay.proofs.total.Statement.{statement}
 use Rattle.replay.proofs.total.Tie as tie
 
 abbrev Inv-loop : tie.InvT-loop
-Inv-loop counts sum₀ i₀ sum i = i ≤ 11
+Inv-loop counts sum₀ i₀ sum i = i ≤ 12
 
 abbrev μ-loop : tie.MeasureT-loop
-μ-loop counts sum₀ i₀ sum i = 11 - i
+μ-loop counts sum₀ i₀ sum i = 12 - i
 
 pub total-spec : {M : Type 1} → statement M
 total-spec =
