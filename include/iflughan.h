@@ -191,10 +191,11 @@ iflughan_logged iflughan_prune_oldest(iflughan_log log, uint8_t *area, size_t ar
 iflughan_logged iflughan_prune_recent(iflughan_log log, uint8_t *area, size_t area_len, uint64_t new_end_live);
 
 /* The log of the records s..e from the images in the area, which `images` lists in any order. Refuses with 1, 11, 12, 13, 14, 15,
- * then by the walk (16 before an image's first header; 17, 18, 19, 20 per record), 21, 22, 23. On acceptance the index begins with
- * `rows` rows of four words (record id, slot, offset of the payload in the slot, length), one for each of s..e in order; its later
- * words stay. Needs 4 x (e - s + 1) words. Writes zeros to the area where e's padding was missing, and changes no other byte. The
- * range (0, 0) gives the empty log and no rows. */
+ * then by the walk (16 before an image's first header; 17, 18, 19, 20 per record), 21, 22, 23. The walk stops once e's record is read:
+ * the rest of its image and later images are not looked at, and 16 to 20 speak only of what stands up to e; where e is not met, of
+ * all images. On acceptance the index begins with `rows` rows of four words (record id, slot, offset of the payload in the slot,
+ * length), one for each of s..e in order; its later words stay. Needs 4 x (e - s + 1) words. Writes zeros to the area where e's
+ * padding was missing, and changes no other byte. The range (0, 0) gives the empty log and no rows. */
 iflughan_recovered iflughan_recover(uint64_t k, uint64_t c, uint64_t m, uint8_t *area, size_t area_len, const iflughan_image *images,
                                     size_t image_count, uint64_t s, uint64_t e, uint64_t *index, size_t index_words);
 

@@ -63,9 +63,9 @@ static iflughan_recovered recover(const asked *it, const iflughan_image *images,
 }
 
 /* Zeros stand where the head's padding was missing, and nothing else changed. */
-static void only_padding_written(const asked *it, const iflughan_log *log) {
+static void only_padding_written(const asked *it, const uint8_t *bytes, const iflughan_log *log) {
     static uint8_t expected[ROOM];
-    memcpy(expected, it->bytes, it->area_length);
+    memcpy(expected, bytes, it->area_length);
     if (log->count) {
         iflughan_segment head = log->segments[log->count - 1];
         for (size_t i = 0; i < it->rows; i++)
@@ -107,6 +107,23 @@ static void same_again(const asked *it, const iflughan_recovered *answer, const 
     HOLD(unchanged(&area) && unchanged(&rows) && unchanged_from(&index_words, answer->rows * 32));
 }
 
+/* What stands behind e is not looked at: with every byte there overwritten the answer, the index and what is written are the same. */
+static void behind_unseen(const asked *it, const iflughan_recovered *answer) {
+    static uint8_t bytes[ROOM], index_before[256 * 8];
+    iflughan_segment head = answer->log.segments[answer->log.count - 1];
+    memcpy(bytes, it->bytes, it->area_length);
+    memcpy(index_before, index_words.at, index_words.length);
+    for (size_t i = 0; i < it->rows; i++) {
+        iflughan_image image = it->images[i];
+        uint64_t from = image.id == head.id ? head.size : image.id > head.id ? 0 : image.size;
+        if (from < image.size) memset(bytes + image.slot * it->c + from, 0xff, image.size - from);
+    }
+    iflughan_recovered again = recover(it, it->images, it->rows, bytes);
+    HOLD(memcmp(&again, answer, sizeof again) == 0);
+    HOLD(memcmp(index_before, index_words.at, index_words.length) == 0);
+    only_padding_written(it, bytes, &again.log);
+}
+
 /* The log takes a cut to its own end, a recovery from its own images, and an append that a recovery does not see. */
 static void log_good(const asked *it, const iflughan_recovered *answer) {
     static uint8_t bytes[ROOM];
@@ -139,9 +156,10 @@ int LLVMFuzzerTestOneInput(const uint8_t *data, size_t size) {
         mark(answer.refusal, it.rows);
         return 0;
     }
-    only_padding_written(&it, &answer.log);
+    only_padding_written(&it, it.bytes, &answer.log);
     rows_good(&it, &answer);
     mark(0, 8 * answer.log.count + answer.rows);
     log_good(&it, &answer);
+    if (it.s) behind_unseen(&it, &answer);
     return 0;
 }

@@ -8,10 +8,10 @@ static void save(const char *file, const void *bytes, size_t length) {
     HOLD(out && fwrite(bytes, 1, length, out) == length && fclose(out) == 0);
 }
 
-/* Two segments of two one-page records, ids from `first` on; asked for all but the first. */
-static void images(const char *file, uint64_t first, uint16_t last_size, uint32_t length) {
+/* Two segments of two one-page records, ids from `first` on; asked for this many records from the second on. */
+static void images(const char *file, uint64_t first, uint64_t wanted, uint16_t last_size, uint32_t length) {
     uint8_t bytes[24 + 2 * 8 + 4 * 16] = {2, 1, 4, 2, 200, 0, 0, 0}, *at = bytes + 8;
-    uint64_t s = first + 1, e = first + 3;
+    uint64_t s = first + 1, e = first + wanted;
     memcpy(at, &s, 8);
     memcpy(at + 8, &e, 8);
     at += 16;
@@ -58,9 +58,14 @@ static void name(const char *file, const char *prefix, const char *rest) {
 }
 
 int main(void) {
-    images("recover/whole", 1, 8192, 3);
-    images("recover/torn", 6, 4096 + 15, 3);
-    images("recover/last-ids", UINT64_MAX - 3, 8192, 4084);
+    images("recover/whole", 1, 3, 8192, 3);
+    images("recover/torn", 6, 3, 4096 + 15, 3);
+    images("recover/torn-first-byte", 6, 2, 4096 + 1, 3);
+    images("recover/torn-header", 6, 2, 4096 + 5, 3);
+    images("recover/torn-last-byte", 6, 2, 4096 + 11, 3);
+    images("recover/torn-next-image", 6, 1, 5, 3);
+    images("recover/torn-before-e", 6, 3, 4096 + 5, 3);
+    images("recover/last-ids", UINT64_MAX - 3, 3, 8192, 4084);
     delta("decode/empty", 0);
     delta("decode/two", 2);
     delta("decode/many", 40);

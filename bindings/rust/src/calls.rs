@@ -71,7 +71,7 @@ pub fn prune_recent(
 }
 
 /// The log of the records s..e from images in the area, and how many rows were written, from the first on; refuses with 1 and 11
-/// to 23.
+/// to 23. In the images nothing behind the record e is looked at.
 pub fn recover(
     shape: Shape,
     area: &mut [u8],

@@ -80,7 +80,8 @@ impl<A: AsRef<[u8]> + AsMut<[u8]>> Log<A> {
 
     /// The log of the records `s..=e` from the images that `images` lists, in any order; `area` holds them, each in its slot.
     ///
-    /// Refuses with 1 and 11 to 22, and then hands the area back as it was. The range (0, 0) gives the empty log.
+    /// Refuses with 1 and 11 to 22, and then hands the area back as it was. The range (0, 0) gives the empty log. In the images
+    /// nothing behind the record `e` is looked at: a write that was cut short there refuses nothing.
     pub fn recover(
         shape: Shape,
         mut area: A,

@@ -1,6 +1,6 @@
 //! What is refused comes back as document 01's refusal, and nothing has changed.
 use iflughan::delta::{self, Entry};
-use iflughan::{calls, names, Error, Log, Refusal, Row, Shape};
+use iflughan::{calls, names, Error, Image, Log, Refusal, Row, Shape};
 
 const SHAPE: Shape = Shape {
     slots: 2,
@@ -84,6 +84,32 @@ fn refused_recovery_hands_the_area_back() {
         assert_eq!(refused.error, Error::Refused(refusal));
         assert_eq!(refused.area, log.area());
     }
+}
+
+/// Five bytes of a header behind record 1, and a later image of noise: 1..1 is recovered, and 1..2 is refused with 17.
+#[test]
+fn a_fault_behind_the_range_refuses_nothing() {
+    let log = two_records();
+    let mut area = log.area().to_vec();
+    area[8192..].fill(0xff);
+    let images = [
+        Image {
+            size: 4096 + 5,
+            ..log.images()[0]
+        },
+        Image {
+            id: 2,
+            slot: 1,
+            size: 8192,
+        },
+    ];
+    let recovered = Log::recover(SHAPE, area.clone(), &images, 1, 1).unwrap();
+    assert_eq!(recovered.payload(1), Some(&b""[..]));
+    assert_eq!(recovered.segments().len(), 1);
+    assert_eq!(recovered.area(), area);
+
+    let refused = Log::recover(SHAPE, area, &images, 1, 2).unwrap_err();
+    assert_eq!(refused.error, Error::Refused(Refusal::ShortHeader));
 }
 
 #[test]

@@ -1,5 +1,6 @@
 //! Demand 3 on one state: what a recovery from the log's own images delivers, and that the log it returns is the one that pruning oldest
-//! to s, then recent to e, leaves; also where any appends came between, as many as the slots have room for.
+//! to s, then recent to e, leaves; also where any appends came between, as many as the slots have room for, and where what stands behind e
+//! is damaged.
 
 use crate::archive::{hold, Archive, Checked, Recovery, UNTOUCHED};
 use crate::ffi::{Image, Log};
@@ -73,6 +74,7 @@ pub fn demand_3(archive: &mut Archive, model: &Model, area: &[u8], lengths: &[us
             let delivery = recover_own(archive, model, area, (s, e), words)?.map_err(say)?;
             let pruned = prune_both(archive, &model.log(), area, (s, e))?;
             hold(delivery.0 == pruned, &format!("demand 3: recovering {s}..{e} and pruning to it give different logs"))?;
+            unseen_behind(archive, model, area, (s, e), &delivery)?;
             for (log, bytes) in &later {
                 let after = recover_own(archive, log, bytes, (s, e), words)?.map_err(say)?;
                 hold(after == delivery, &format!("demand 3: later appends change the recovery of {s}..{e}"))?;
@@ -80,6 +82,23 @@ pub fn demand_3(archive: &mut Archive, model: &Model, area: &[u8], lengths: &[us
         }
     }
     Ok(())
+}
+
+/// The same delivery where every byte behind e's record is damage: its image, where the slot has room, and each later one end in a torn header.
+fn unseen_behind(archive: &mut Archive, model: &Model, area: &[u8], (s, e): (u64, u64), delivery: &Delivery) -> Checked<()> {
+    let (log, capacity) = (delivery.0, model.shape.1);
+    let head = log.segments[log.count as usize - 1];
+    let (mut images, mut damaged) = (model.images(), area.to_vec());
+    for image in images.iter_mut().filter(|image| image.id >= head.id) {
+        let end = if image.id == head.id { head.size } else { 0 };
+        damaged[(image.slot as u64 * capacity) as usize..][end as usize..capacity as usize].fill(0xff);
+        image.size = capacity.min(end + 5);
+    }
+    let asked = Recovery { shape: model.shape, images: &images, s, e, index_words: delivery.1.len() };
+    let (answer, area_after, index) = archive.recover(&asked, &damaged)?;
+    hold(answer.refusal == 0, &format!("damage behind {e} is seen: {s}..{e} is refused with {}", answer.refusal))?;
+    hold((answer.log, &index) == (log, &delivery.1), &format!("damage behind {e} changes the recovery of {s}..{e}"))?;
+    hold(area_after == damaged, &format!("recovering {s}..{e} writes behind {e}"))
 }
 
 /// The logs and areas after each series of appends that is accepted.

@@ -9,6 +9,7 @@ mod cases_logs;
 mod cases_names;
 mod cases_recovery;
 mod cases_sizes;
+mod cases_up_to_e;
 mod demand;
 #[allow(dead_code)]
 #[path = "../../../bindings/rust/src/ffi.rs"]
@@ -47,6 +48,7 @@ fn everything(longest: usize) -> Checked<bool> {
     }
     cases_logs::run(&mut cases)?;
     cases_recovery::run(&mut cases)?;
+    cases_up_to_e::run(&mut cases)?;
     cases_names::run(&mut cases)?;
     cases_deltas::run(&mut cases)?;
     cases_sizes::run(&mut cases)?;
