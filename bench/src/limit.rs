@@ -25,3 +25,18 @@ pub fn walk(image: &[u8]) -> u64 {
     }
     sum
 }
+
+/// The record `last`, by a bare walk over an area's images, one in each slot: every header up to it is touched, nothing is checked.
+pub fn walk_to(area: &[u8], capacity: usize, last: u64) -> u64 {
+    for image in area.chunks(capacity) {
+        let mut at = 0;
+        while at + 12 <= image.len() {
+            let length = u32::from_le_bytes(image[at..at + 4].try_into().unwrap()) as usize;
+            if u64::from_le_bytes(image[at + 4..at + 12].try_into().unwrap()) == last {
+                return last;
+            }
+            at = padded(at + 12 + length);
+        }
+    }
+    0
+}

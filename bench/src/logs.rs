@@ -13,18 +13,27 @@ use std::sync::Arc;
 const PREFIX: &str = "rollback";
 
 /// A folder of the original's on a memory-backed file system.
-struct Folder(PathBuf);
+pub struct Folder(PathBuf);
 
 impl Folder {
-    fn new(name: &str) -> Folder {
+    pub fn new(name: &str) -> Folder {
         let path = PathBuf::from("/dev/shm").join(format!("iflughan-bench-{}-{}", std::process::id(), name));
         fs::create_dir_all(&path).expect("a memory-backed folder");
         Folder(path)
     }
 
-    fn open(&self, soft_size: u64, s: u64, e: u64, each: impl FnMut(RecordId, &[u8]) -> anyhow::Result<()>) -> SegmentedLog {
+    pub fn open(&self, soft_size: u64, s: u64, e: u64, each: impl FnMut(RecordId, &[u8]) -> anyhow::Result<()>) -> SegmentedLog {
         let folder = Arc::new(File::open(&self.0).expect("the folder"));
         seglog::open(self.0.clone(), folder, PREFIX.into(), soft_size, s.into(), e.into(), each).expect("the original opens")
+    }
+
+    /// Another folder with the same files.
+    pub fn copied(&self, name: &str) -> Folder {
+        let copy = Folder::new(name);
+        for file in fs::read_dir(&self.0).expect("the folder").map(|entry| entry.expect("a file").path()) {
+            fs::copy(&file, copy.0.join(file.file_name().expect("a name"))).expect("a copy");
+        }
+        copy
     }
 }
 
@@ -34,7 +43,7 @@ impl Drop for Folder {
     }
 }
 
-fn grow(shape: Shape, area: &mut [u8], records: usize, payload: &[u8]) -> Log {
+pub fn grow(shape: Shape, area: &mut [u8], records: usize, payload: &[u8]) -> Log {
     let mut log = calls::new(shape, area).log;
     for _ in 0..records {
         let appended = calls::append(&log, area, payload);

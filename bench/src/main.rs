@@ -13,16 +13,29 @@ mod lent;
 mod original;
 
 mod deltas;
+mod first_tenth;
 mod limit;
 mod logs;
 mod timing;
 
+const PARTS: [(&str, fn(usize)); 6] = [
+    ("append", logs::append),
+    ("prune_recent", logs::prune_recent),
+    ("recover", logs::recover),
+    ("first_tenth", first_tenth::recover),
+    ("decode", deltas::decode),
+    ("encode", deltas::encode),
+];
+
 fn main() {
-    let rounds = std::env::args().nth(1).map_or(31, |word| word.parse().expect("a number of rounds"));
+    let words: Vec<String> = std::env::args().skip(1).collect();
+    let rounds = words.first().map_or(31, |word| word.parse().expect("a number of rounds"));
+    let wanted = words.get(1..).unwrap_or_default();
+    assert!(wanted.iter().all(|word| PARTS.iter().any(|(name, _)| word == name)), "no such part");
     println!("what\tcase\tours best\tours median\tlimit best\tlimit median\toriginal best\toriginal median\tours/limit\tours/original");
-    logs::append(rounds);
-    logs::prune_recent(rounds);
-    logs::recover(rounds);
-    deltas::decode(rounds);
-    deltas::encode(rounds);
+    for (name, run) in PARTS {
+        if wanted.is_empty() || wanted.iter().any(|word| word == name) {
+            run(rounds);
+        }
+    }
 }
