@@ -132,10 +132,10 @@ refused-up-to-e area c s e (r ∷ rs) w n q = go (imageWalk area c s e r w) refl
           at = r;
           later = rs;
           split = refl;
-          d = w;
+          before = w;
           segs = [];
           good = refl;
-          v = v;
+          there = v;
           fault = fault;
           unread = going-unfound v (image-going area c s e r w v n fault);
         }
@@ -146,10 +146,10 @@ refused-up-to-e area c s e (r ∷ rs) w n q = go (imageWalk area c s e r w) refl
           at = f .at;
           later = f .later;
           split = ap (λ (l : List ImageRow). r ∷ l) (f .split);
-          d = f .d;
+          before = f .before;
           segs = filledOf r d ∷ f .segs;
           good = images-next area c s e r w (f .front) d t ∙ ap (behind (filledOf r d ∷ [])) (f .good);
-          v = f .v;
+          there = f .there;
           fault = f .fault;
           unread = f .unread;
         }

@@ -18,18 +18,18 @@ use Rattle.recovery_walk.specs.Rows.{rowsAll, penOf, RowIds}
 use Rattle.recovery_walk.specs.Scan.{liveCount, scanOf, indexOf}
 use Rattle.recovery_walk.specs.Headers.{EachWalked, SameHeader}
 
--- where a fault of the walk stands: the images in front of its image are good, and at the state v in its image e's record is not read yet
+-- where a fault of the walk stands: the images in front of its image are good, and at the state there e's record is not read yet
 pub record FaultUpToE (area : List ℕ) (c s e : ℕ) (rows : List ImageRow) (w : Scan) (n : ℕ) : Type 0 where
   pub front : List ImageRow
   pub at : ImageRow
   pub later : List ImageRow
   pub split : rows ≡ front ++ (at ∷ later)
-  pub d : Scan
+  pub before : Scan
   pub segs : List Segment
-  pub good : images area c s e front w ≡ walked d segs
-  pub v : Scan
-  pub fault : imageWalk area c s e at d ≡ Faulted n v
-  pub unread : v .«found_e» ≡ false
+  pub good : images area c s e front w ≡ walked before segs
+  pub there : Scan
+  pub fault : imageWalk area c s e at before ≡ Faulted n there
+  pub unread : there .«found_e» ≡ false
 
 -- "Refusals 16 to 20 speak only of what stands up to e": where the walk is refused, the fault stands before e's record
 abbrev pub RefusedUpToE : Type 0
