@@ -115,6 +115,7 @@ module _ (a : View) (area : List ℕ) (f : ℕ → List ℕ) (h : Holds a area f
           small = λ i l u. absurd (omega arith);
           long = rw none refl;
           image = rw none refl;
+          newest = λ l. absurd (omega arith);
         };
         fresh = free-good (a .segs) (a .k) 0 (omega arith);
         apart = h .apart;

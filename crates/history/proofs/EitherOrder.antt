@@ -21,7 +21,8 @@ use Rattle.seglog_prune.proofs.Decide.{Inner, prune-passes, pruned-same}
 use Rattle.history.proofs.Prunes.{New, at-new, endedView, ended-holds, recent-is}
 use Rattle.history.proofs.Runs.{Any, heldOf, recent-log, oldest-log, Came, runs-keep, on-view}
 use Rattle.history.proofs.Slots.{Stored}
-use Rattle.history.proofs.Views.{Brings, brings, recovered-log}
+use Rattle.history.proofs.Brings.{Brings, recovered-log}
+use Rattle.history.proofs.Views.{brings}
 use Rattle.history.proofs.Whole.{brings-self, recent-whole}
 
 module _ (a : View) (area : List ℕ) (f : ℕ → List ℕ) (h : Holds a area f) (s e : ℕ) (above : 0 < s) (order : s ≤ e) (from : a .start ≤ s)

@@ -38,7 +38,7 @@ held = earlier 1 4096 4096 area (append bytes ∷ [])
 
 -- one segment, one record
 abbrev segment : Segment
-segment = record { id = 1; slot = 0; size = 4096; min = 1; max = 1 }
+segment = record { id = 1; slot = 0; size = 4096; min = 1; max = 1; «newest_at» = 0 }
 
 log-is : held .log ≡ logOf (record { k = 1; c = 4096; m = 4096; start = 1; end = 1; segs = segment ∷ [] })
 unfolding run appendLog decideLog decideOf fittingOf plainOf zerosOf shapedOf sizesOf chainOf goesOn all linked distinct endsOf opensOf

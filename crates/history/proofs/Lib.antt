@@ -8,12 +8,15 @@ pub mod Appends
 pub mod Cuts
 pub mod Prunes
 pub mod Runs
+pub mod OverStates
+pub mod Read
 pub mod Scans
 pub mod Deliver
 pub mod Later
 pub mod Kept
 pub mod Same
 pub mod OwnRows
+pub mod Brings
 pub mod Views
 pub mod IndexRows
 pub mod Theorem

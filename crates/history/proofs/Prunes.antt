@@ -5,11 +5,12 @@ use mathlib.Core.List.{List, [], _∷_, _++_, append-assoc}
 use mathlib.Core.Path.{sym, ap, _∙_, _≡_, refl, subst}
 use Prim.Native.Nat.{ℕ, _≤_, _<_, _-_, _+_, _*_}
 use native.Mathlib.Omega.{arith}
-use lib.Dec.{ltb}
+use lib.Dec.{ltb, eqb}
 use lib.ListN.{length, getD, drop, take}
 use lib.Seq.{take-take, take-at}
-use borrow.Author.Tests.{ltb-false, le-ltb, ltb-true, lt-ltb}
+use borrow.Author.Tests.{ltb-false, le-ltb, ltb-true, lt-ltb, eqb-true}
 use Rattle.lists.proofs.Bools.{clash}
+use Rattle.lists.proofs.Cases.{by-test}
 use Rattle.seglog.proofs.View.{front-snoc, head-snoc}
 use Rattle.seglog.proofs.Fit.{sizes-are}
 use Rattle.seglog.specs.View.{View, frontOf, headOf}
@@ -22,16 +23,18 @@ use Rattle.lists.specs.Outcome.{Outcome, refused, done}
 use Rattle.lists.proofs.Distinct.{distinct-front, distinct-more, snoc-distinct}
 use Rattle.lists.specs.Each.{all}
 use Rattle.seglog_prune.specs.Drop.{dropOld, dropNew, keepAt}
-use Rattle.seglog_prune.specs.Cut.{findCut}
+use Rattle.seglog_prune.specs.declared.Newest.{Newest}
+use Rattle.seglog_prune.specs.Cut.{cutAt, findCut, cutIn}
 use Rattle.seglog_prune.specs.Prune.{Pruned, pruned, pruneOf, startedAt, pruneOldestOf, cutOff, pruneRecentOf}
 use Rattle.seglog_prune.specs.Prune as Prune
 use Rattle.seglog_prune.proofs.DropKept.{old-chain}
 use Rattle.seglog_prune.proofs.Decide.{Inner, prune-ways}
-use Rattle.walk.specs.Records.{recordsFrom}
-use Rattle.history.proofs.Cuts.{cut-records}
+use Rattle.walk.specs.Judging.{maxImage}
+use Rattle.walk.specs.Records.{recordsFrom, Plain}
+use Rattle.history.proofs.Cuts.{recordOf, cut-records, cut-newest}
 use Rattle.history.proofs.Invariant.{Holds, empty-holds, Live}
 use Rattle.history.proofs.Records.{from-front, splice-whole}
-use Rattle.history.proofs.Slots.{Stored}
+use Rattle.history.proofs.Slots.{Stored, newest-at}
 
 -- what a prune's outcome keeps: a refusal is 8 or 9
 abbrev pub PruneKeeps : (ℕ → List ℕ) → Outcome Pruned → Type 0
@@ -147,22 +150,64 @@ new P (g ∷ gs) i b n j c l u h = go (ltb (g .max) n) refl (λ q. new P gs (i +
           high = ltb-false (g .max) n q;
         }
 
--- g ends with the record n, whose payloads f has
-abbrev pub closedBy : (ℕ → List ℕ) → Segment → ℕ → Segment
-closedBy f g n = endedAt g n (length (recordsFrom f (g .min) (n + 1 - g .min)))
+-- the record n in g, whose payloads f has
+abbrev pub newestIn : (ℕ → List ℕ) → Segment → ℕ → Newest
+newestIn f g n = recordOf f (g .min) n
 
--- the log that ends with the record n in g, after hs
+-- g ends with it
+abbrev pub closedBy : (ℕ → List ℕ) → Segment → ℕ → Segment
+closedBy f g n = endedAt g n (newestIn f g n .at) (newestIn f g n .end)
+
+-- the log that ends with it, after hs
 abbrev pub endedView : View → (ℕ → List ℕ) → ℕ → List Segment → Segment → View
-endedView a f n hs g = Prune.endedView a n hs g (length (recordsFrom f (g .min) (n + 1 - g .min)))
+endedView a f n hs g = Prune.endedView a n hs g (newestIn f g n)
 
 live-ended : (hs rest : List Segment) (g y : Segment) (s e j e′ j′ : ℕ) → Live s e j (hs ++ (g ∷ rest)) → y .min ≡ g .min → s ≤ y .max
     → Live s e′ j′ (hs ++ (y ∷ []))
 live-ended [] rest g y s e j e′ j′ h q l = (omega (arith, h .0), omega arith)
 live-ended (x ∷ hs) rest g y s e j e′ j′ h q l = (h .0, h .1)
 
+-- what the two ways to the record n of a stored segment come to
+pub record Cut (area : List ℕ) (f : ℕ → List ℕ) (c n : ℕ) (g : Segment) : Type 0 where
+  -- a look at the newest record's header, or the search
+  pub newest : cutIn g (imageIn area c g) n ≡ done (newestIn f g n)
+  -- the search
+  pub searched : findCut (imageIn area c g) n 0 ≡ done (newestIn f g n)
+
+-- both find it
+pub cut-stored : (area : List ℕ) (f : ℕ → List ℕ) (k c : ℕ) → c ≤ maxImage → (n : ℕ) (g : Segment) → Stored area f k c g → g .min ≤ n
+    → n ≤ g .max → Cut area f c n g
+unfolding cutIn
+cut-stored area f k c slots n g good low high =
+    let img : List ℕ = imageIn area c g in
+    let none : (m : ℕ) → 0 + m ≡ m = λ m. omega arith in
+    let searched : findCut img n 0 ≡ done (newestIn f g n) =
+    ap (λ (l : List ℕ). findCut l n 0) (good .image)
+    ∙ cut-records f n (g .max + 1 - g .min) [] (g .min) 0 refl refl plain low (omega arith) (omega (arith, good .long, good .room))
+    ∙ (λ i. done (record { at = none (newestIn f g n .at) i; end = none (newestIn f g n .end) i })) in
+    record {
+      newest = by-test (eqb (g .max) n) (λ q. simp q (looked (eqb-true (g .max) n q))) (λ q. simp q searched);
+      searched = searched;
+    }
+  where
+    plain : Plain f (g .min) (g .max + 1 - g .min)
+    plain = record { small = λ i l u. good .small i l (omega arith); ids = omega (arith, good .top) }
+
+    looked : g .max ≡ n → cutAt (imageIn area c g) n (g .«newest_at») ≡ done (newestIn f g n)
+    looked e =
+        ap (λ (l : List ℕ). cutAt l n (g .«newest_at»)) (good .image)
+        ∙ ap (cutAt (recordsFrom f (g .min) (g .max + 1 - g .min)) n) (newest-at area f k c g good (omega arith))
+        ∙ subst (λ (m : ℕ). cutAt (recordsFrom f (g .min) (m + 1 - g .min)) n (length (recordsFrom f (g .min) (m - g .min)))
+        ≡ done (newestIn f g n)) (sym e)
+        (cut-newest f (g .min) n (subst (λ (m : ℕ). Plain f (g .min) (m + 1 - g .min)) e plain) low
+        (omega (arith, good .long, good .room, ap (λ (m : ℕ). length (recordsFrom f (g .min) (m + 1 - g .min))) e)))
+
 module _ (a : View) (area : List ℕ) (f : ℕ → List ℕ) (n : ℕ) (h : Holds a area f) (w : Inner a true n) where
   abbrev P : Segment → Type 0
   P = Stored area f (a .k) (a .c)
+
+  slots : a .c ≤ maxImage
+  slots = sizes-are (a .k) (a .c) (a .m) (h .sizes) .at-most
 
   -- the segment that holds n
   pub at-new : New P (h .i) (h .b) n (a .segs)
@@ -173,16 +218,10 @@ module _ (a : View) (area : List ℕ) (f : ℕ → List ℕ) (n : ℕ) (h : Hold
 
   -- the cut is found, and nothing is missing
   pub ended : (hs : List Segment) (g : Segment) → P g → g .min ≤ n → n ≤ g .max
-      → cutOff a area n hs g (findCut (imageIn area (a .c) g) n 0) ≡ pruned (endedView a f n hs g) area
+      → cutOff a area n hs g (cutIn g (imageIn area (a .c) g) n) ≡ pruned (endedView a f n hs g) area
   ended hs g good low high =
       let fit = from-front f (g .min) (n + 1 - g .min) (g .max + 1 - g .min) (omega arith) in
-      let found : findCut (imageIn area (a .c) g) n 0 ≡ done (length (recordsFrom f (g .min) (n + 1 - g .min))) =
-      ap (λ (l : List ℕ). findCut l n 0) (good .image)
-      ∙ cut-records f n (g .max + 1 - g .min) [] (g .min) 0 refl refl
-      (record { small = λ i l u. good .small i l (omega arith); ids = omega (arith, good .top) }) low (omega arith)
-      (omega (arith, good .long, good .room, sizes-are (a .k) (a .c) (a .m) (h .sizes) .at-most))
-      ∙ ap done (omega arith) in
-      ap (cutOff a area n hs g) found
+      ap (cutOff a area n hs g) (cut-stored area f (a .k) (a .c) slots n g good low high .newest)
       ∙ ap (pruned (endedView a f n hs g)) (splice-whole (g .slot * a .c + g .size) (length (recordsFrom f (g .min) (n + 1 - g .min)))
       (g .size) area (omega (arith, fit .0, good .long)))
 
@@ -200,6 +239,8 @@ module _ (a : View) (area : List ℕ) (f : ℕ → List ℕ) (n : ℕ) (h : Hold
             sym (take-take (length (recordsFrom f (g .min) (n + 1 - g .min))) (g .size) (drop (g .slot * a .c) area)
             (omega (arith, fit .0, good .long)))
             ∙ ap (take (length (recordsFrom f (g .min) (n + 1 - g .min)))) (good .image) ∙ fit .1;
+        newest = λ l.
+            let back : n ≡ n + 1 - 1 = omega arith in ap (λ (j : ℕ). length (recordsFrom f (g .min) (j - g .min))) back;
       }
 
   -- the invariant after prune recent
@@ -229,15 +270,15 @@ module _ (a : View) (area : List ℕ) (f : ℕ → List ℕ) (n : ℕ) (h : Hold
 
   -- prune recent, past its tests, is the log cut there, with the area as it was
   pub recent-is : cutOff a area n (frontOf (dropNew n (a .segs))) (headOf (dropNew n (a .segs)))
-      (findCut (imageIn area (a .c) (headOf (dropNew n (a .segs)))) n 0)
+      (cutIn (headOf (dropNew n (a .segs))) (imageIn area (a .c) (headOf (dropNew n (a .segs)))) n)
       ≡ pruned (endedView a f n (at-new .hs) (at-new .g)) area
   recent-is =
       let t = at-new in
       let front : frontOf (dropNew n (a .segs)) ≡ t .hs = ap (λ (l : List Segment). frontOf l) (t .kept) ∙ front-snoc (t .hs) (t .g) in
       let head : headOf (dropNew n (a .segs)) ≡ t .g = ap (λ (l : List Segment). headOf l) (t .kept) ∙ head-snoc (t .hs) (t .g) in
       ap (λ (l : List Segment). cutOff a area n l (headOf (dropNew n (a .segs)))
-      (findCut (imageIn area (a .c) (headOf (dropNew n (a .segs)))) n 0)) front
-      ∙ ap (λ (y : Segment). cutOff a area n (t .hs) y (findCut (imageIn area (a .c) y) n 0)) head
+      (cutIn (headOf (dropNew n (a .segs))) (imageIn area (a .c) (headOf (dropNew n (a .segs)))) n)) front
+      ∙ ap (λ (y : Segment). cutOff a area n (t .hs) y (cutIn y (imageIn area (a .c) y) n)) head
       ∙ ended (t .hs) (t .g) (t .good) (t .low) (t .high)
 
 -- prune recent keeps the invariant

@@ -25,14 +25,7 @@ use Rattle.lists.specs.Outcome.{refused}
 use Rattle.recovery.specs.Recovery.{Recovery, recovered, recoveryOf, recoveryAnswer, recoveryArea, recoveryIndex, oneZero}
 use Rattle.history.specs.Demand.{rowFor, rowsFor, listed, recovering, idsIn, Delivers, earlier}
 use Rattle.history.specs.History.{Held, run, appends, told, lastUnder, begun}
-use Rattle.history.specs.Relocation.{
-  imagesOf,
-  placelessLog,
-  SameImages,
-  SameElsewhere,
-  DeliversElsewhere,
-  Demand3Elsewhere,
-}
+use Rattle.history.specs.Relocation.{imagesOf, placelessLog, SameImages, DeliversElsewhere, Demand3Elsewhere}
 use Rattle.lists.proofs.AnyOrder.{any-refl}
 use Rattle.history.proofs.OwnRows.{rising-rows}
 use Rattle.history.proofs.Runs.{Came, Any, listed-log, runs-keep}
@@ -40,7 +33,7 @@ use Rattle.history.proofs.Scans.{Has}
 use Rattle.history.proofs.Slots.{Stored}
 use Rattle.history.proofs.Sorts.{sort-any}
 use Rattle.history.proofs.Theorem.{later-came, brings-held, accepts-held, delivers-held}
-use Rattle.history.proofs.Views.{Brings, recovered-log, recovered-words}
+use Rattle.history.proofs.Brings.{Brings, recovered-log, recovered-words}
 use Rattle.history.proofs.RelocationOutcome.{Alike, both-refuse, both-empty, both-close, recovery-alike}
 use Rattle.history.proofs.Relocation.{relocation, moved-long, one-slot, head-good}
 
@@ -160,7 +153,7 @@ module _ (t : Held) (f : ℕ → List ℕ) (came : Came Any t f) (further : List
         -- in the later log itself no padding is missing
         whole : a ≡ d .log → left .x ≤ left .g .size
         whole log =
-            let head : headOf (d .log .segs) ≡ endedAt (left .g) e (left .x) = sym (ap (λ (v : View). headOf (v .segs)) log) ∙ left .last in
+            let head : headOf (d .log .segs) ≡ endedAt (left .g) e (left .at) (left .x) = sym (ap (λ (v : View). headOf (v .segs)) log) ∙ left .last in
             let good =
             head-good (u .log .k) (u .log .c) (u .log .m) (u .area) own s e (length index) (passes .1) a after ws q left in
             let g = left .row (λ y. omega (arith, good .some-id, ap (λ (h : Segment). h .id) (left .last))) in

@@ -48,20 +48,20 @@ kept-placeless s e (g ∷ gs) = go (holdsLive s e g) (kept-placeless s e gs)
     go true q = ap (λ (l : List Segment). placeless g ∷ l) q
     go false q = q
 
--- segments, the last of them ended with the record e at x
-abbrev closed : (e x : ℕ) → List Segment → List Segment
-closed e x gs = frontOf gs ++ (endedAt (headOf gs) e x ∷ [])
+-- segments, the last of them ended with the record e, from `at` to x
+abbrev closed : (e at x : ℕ) → List Segment → List Segment
+closed e at x gs = frontOf gs ++ (endedAt (headOf gs) e at x ∷ [])
 
 head-placeless : (gs : List Segment) → placeless (headOf gs) ≡ headOf (map placeless gs)
 head-placeless gs =
     sym (List·getD-map placeless gs (length gs - 1) noSegment)
     ∙ ap (λ (n : ℕ). getD (map placeless gs) (n - 1) noSegment) (sym (length-map gs placeless))
 
-closed-placeless : (e x : ℕ) (gs : List Segment) → map placeless (closed e x gs) ≡ closed e x (map placeless gs)
-closed-placeless e x gs =
+closed-placeless : (e at x : ℕ) (gs : List Segment) → map placeless (closed e at x gs) ≡ closed e at x (map placeless gs)
+closed-placeless e at x gs =
     let front : map placeless (frontOf gs) ≡ frontOf (map placeless gs) =
     map-take placeless (length gs - 1) gs ∙ ap (λ (n : ℕ). take (n - 1) (map placeless gs)) (sym (length-map gs placeless)) in
-    map-append placeless (frontOf gs) (endedAt (headOf gs) e x ∷ []) ∙ (λ i. front i ++ (endedAt (head-placeless gs i) e x ∷ []))
+    map-append placeless (frontOf gs) (endedAt (headOf gs) e at x ∷ []) ∙ (λ i. front i ++ (endedAt (head-placeless gs i) e at x ∷ []))
 
 -- ---- one run
 
@@ -72,14 +72,15 @@ pub record FromRow (rs : List ImageRow) (g : Segment) : Type 0 where
   pub slot : g .slot ≡ rowAt rs i .slot
   pub size : g .size ≡ rowAt rs i .size
 
--- what an accepted scan leaves: the last kept segment g, ended with the record e at x, and its missing padding
+-- what an accepted scan leaves: the last kept segment g, ended with the record e, from `at` to x, and its missing padding
 pub record Closing (k c : ℕ) (area : List ℕ) (rs : List ImageRow) (e : ℕ) (a : View) (after : List ℕ) : Type 0 where
   pub g : Segment
+  pub at : ℕ
   pub x : ℕ
   pub slots : a .k ≡ k
   pub bytes-a-slot : a .c ≡ c
   pub some : 0 < length (a .segs)
-  pub last : headOf (a .segs) ≡ endedAt g e x
+  pub last : headOf (a .segs) ≡ endedAt g e at x
   pub bytes : after ≡ paddedTo c area g x
   pub row : (g .id ≡ 0 → ⊥) → FromRow rs g
 
@@ -187,17 +188,18 @@ module _ (k c m : ℕ) (area : List ℕ) (rows : List ImageRow) (k′ c′ m′ 
     -- an accepted walk, closed
     abbrev closing : (k c m : ℕ) (area : List ℕ) (rs : List ImageRow) (d : Scan) (gs : List Segment) → rs ≡ rowsFor gs
         → Closing k c area rs e
-        (record { k = k; c = c; m = m; start = s; end = e; segs = closed e (d .«end_of_e») (keptOf s e gs) })
+        (record { k = k; c = c; m = m; start = s; end = e; segs = closed e (d .«start_of_e») (d .«end_of_e») (keptOf s e gs) })
         (paddedTo c area (headOf (keptOf s e gs)) (d .«end_of_e»))
     closing k c m area rs d gs q =
         let kept : List Segment = keptOf s e gs in
         record {
           g = headOf kept;
+          at = d .«start_of_e»;
           x = d .«end_of_e»;
           slots = refl;
           bytes-a-slot = refl;
-          some = omega (arith, length-append (frontOf kept) (endedAt (headOf kept) e (d .«end_of_e») ∷ []));
-          last = head-snoc (frontOf kept) (endedAt (headOf kept) e (d .«end_of_e»));
+          some = omega (arith, length-append (frontOf kept) (endedAt (headOf kept) e (d .«start_of_e») (d .«end_of_e») ∷ []));
+          last = head-snoc (frontOf kept) (endedAt (headOf kept) e (d .«start_of_e») (d .«end_of_e»));
           bytes = refl;
           row = head-row rs s e gs q;
         }
@@ -215,10 +217,13 @@ module _ (k c m : ℕ) (area : List ℕ) (rows : List ImageRow) (k′ c′ m′ 
         head-same : placeless (headOf (keptOf s e gs)) ≡ placeless (headOf (keptOf s e gs′))
         head-same = head-placeless (keptOf s e gs) ∙ ap (λ (l : List Segment). headOf l) kept-same ∙ sym (head-placeless (keptOf s e gs′))
 
-        closed-same : map placeless (closed e (d .«end_of_e») (keptOf s e gs)) ≡ map placeless (closed e (d .«end_of_e») (keptOf s e gs′))
+        ended : List Segment → List Segment
+        ended = closed e (d .«start_of_e») (d .«end_of_e»)
+
+        closed-same : map placeless (ended (keptOf s e gs)) ≡ map placeless (ended (keptOf s e gs′))
         closed-same =
-            closed-placeless e (d .«end_of_e») (keptOf s e gs) ∙ ap (closed e (d .«end_of_e»)) kept-same ∙ sym
-            (closed-placeless e (d .«end_of_e») (keptOf s e gs′))
+            closed-placeless e (d .«start_of_e») (d .«end_of_e») (keptOf s e gs) ∙ ap ended kept-same
+            ∙ sym (closed-placeless e (d .«start_of_e») (d .«end_of_e») (keptOf s e gs′))
 
         go : (x y z : Bool)
             → Alike (outcomeOf k c m area s e rs

@@ -127,7 +127,7 @@ module _ (area : List ℕ) (c : ℕ) (area′ : List ℕ) (c′ s e : ℕ) where
       go (Faulted n v) i z ih = refl
       go (Ended d) i z ih =
           let one : placeless (filledOf r d) ≡ placeless (filledOf r′ d) =
-          λ j. record { id = i j; slot = 0; size = z j; min = d .min; max = d .max } in
+          λ j. record { id = i j; slot = 0; size = z j; min = d .min; max = d .max; «newest_at» = d .«newest_at» } in
           placeless-behind (filledOf r d) (images area c s e rs d)
           ∙ ap (behind (placeless (filledOf r d) ∷ [])) (ih d)
           ∙ ap (λ (g : Segment). behind (g ∷ []) (placelessWalk (images area′ c′ s e rs′ d))) one

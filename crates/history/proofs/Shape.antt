@@ -18,31 +18,37 @@ use Rattle.seglog.specs.View.{headOf, View}
 use Rattle.seglog.specs.Chain.{chainOf, endsOf}
 use Rattle.seglog.specs.Fit.{fitsOf, shapedOf, sizesOf}
 use Rattle.segment.specs.declared.Segment.{Segment}
-use Rattle.segment.specs.Chain.{Chain}
+use Rattle.segment.specs.Chain.{Chain, NewestFits}
 use Rattle.segment.proofs.Chain.{chain-every, chain-map}
 use Rattle.seglog.proofs.Chain.{chain-passes, chain-ends, are-ends, empty-ends}
 use Rattle.walk.specs.Records.{recordsFrom}
 use Rattle.history.proofs.Invariant.{Live, Holds}
-use Rattle.history.proofs.Records.{from-pages}
-use Rattle.history.proofs.Slots.{Stored}
+use Rattle.history.proofs.Records.{from-more, from-pages}
+use Rattle.history.proofs.Slots.{Stored, newest-at}
 
 module _ (area : List ℕ) (f : ℕ → List ℕ) (k c : ℕ) where
   abbrev P : Segment → Type 0
   P = Stored area f k c
 
-  -- a segment has at least its first record
-  pub size-some : (g : Segment) → P g → g .min ≤ g .max → 12 ≤ g .size
-  unfolding recordsFrom
-  size-some g p h =
+  -- a segment's newest record fits
+  pub newest-fits : (g : Segment) → P g → g .min ≤ g .max → NewestFits (g .«newest_at») (g .size)
+  newest-fits g p h =
+      let at = newest-at area f k c g p h in
       let one : g .max + 1 - g .min ≡ suc (g .max - g .min) = omega arith in
-      omega (
-        arith,
-        p .long,
-        ap (λ (n : ℕ). length (recordsFrom f (g .min) n)) one,
-        length-append (recordBytes (g .min) (f (g .min))) (recordsFrom f (suc (g .min)) (g .max - g .min)),
-        record-length (g .min) (f (g .min)),
-        room-ge (length (f (g .min))),
-      )
+      let last : ℕ = g .min + (g .max - g .min) in
+      record {
+        pages = ap (λ (n : ℕ). n % 4096) at ∙ from-pages f (g .min) (g .max - g .min);
+        header = omega (
+          arith,
+          at,
+          p .long,
+          ap (λ (n : ℕ). length (recordsFrom f (g .min) n)) one,
+          ap length (from-more f (g .min) (g .max - g .min)),
+          length-append (recordsFrom f (g .min) (g .max - g .min)) (recordBytes last (f last)),
+          record-length last (f last),
+          room-ge (length (f last)),
+        );
+      }
 
   -- slots below K
   pub below : (gs : List Segment) (i b j e : ℕ) → Chain P i b gs j e → Below slotNumber k gs
@@ -52,7 +58,9 @@ module _ (area : List ℕ) (f : ℕ → List ℕ) (k c : ℕ) where
   pub chain-good : (gs : List Segment) (i b j e : ℕ) → 1 ≤ i → 1 ≤ b → Chain P i b gs j e → chainOf k c gs ≡ true
   chain-good gs i b j e l m h =
       chain-passes k c gs i b j e l m
-      (chain-map gs i b j e (λ g o p. record { slot = p .slot; some = omega (arith, size-some g p o); size = p .room }) h)
+      (chain-map gs i b j e
+      (λ g o p.
+      let fits = newest-fits g p o in record { slot = p .slot; some = omega (arith, fits .header); size = p .room; newest = fits }) h)
 
   ends-good : (gs : List Segment) (i b j s e : ℕ) → Chain P i b gs j (e + 1) → Live s e j gs → endsOf s e gs ≡ true
   ends-good [] i b j s e h l = empty-ends s e [] refl (l .0) (l .1)

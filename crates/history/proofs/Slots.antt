@@ -20,7 +20,7 @@ use Rattle.history.specs.History.{noted}
 use Rattle.walk.specs.Records.{recordsFrom}
 use Rattle.history.proofs.Records.{from-agree, from-more}
 
--- g's slot begins with the records of its ids below b, and g's size is their length
+-- g's slot begins with the records of its ids below b, g's size is their length, and the last of them starts at newest_at
 pub record Upto (area : List ℕ) (f : ℕ → List ℕ) (k c b : ℕ) (g : Segment) : Type 0 where
   pub slot : g .slot < k
   pub room : g .size ≤ c
@@ -29,10 +29,18 @@ pub record Upto (area : List ℕ) (f : ℕ → List ℕ) (k c b : ℕ) (g : Segm
   pub small : (i : ℕ) → g .min ≤ i → i < b → length (f i) ≤ maxPayload
   pub long : g .size ≡ length (recordsFrom f (g .min) (b - g .min))
   pub image : imageIn area c g ≡ recordsFrom f (g .min) (b - g .min)
+  pub newest : g .min < b → g .«newest_at» ≡ length (recordsFrom f (g .min) (b - 1 - g .min))
 
 -- g's slot begins with all its records
 abbrev pub Stored : List ℕ → (ℕ → List ℕ) → ℕ → ℕ → Segment → Type 0
 Stored area f k c g = Upto area f k c (g .max + 1) g
+
+-- and g's newest record starts behind the others
+pub newest-at : (area : List ℕ) (f : ℕ → List ℕ) (k c : ℕ) (g : Segment) → Stored area f k c g → g .min ≤ g .max
+    → g .«newest_at» ≡ length (recordsFrom f (g .min) (g .max - g .min))
+newest-at area f k c g h order =
+    let back : g .max + 1 - 1 ≡ g .max = omega arith in
+    h .newest (omega arith) ∙ ap (λ (j : ℕ). length (recordsFrom f (g .min) (j - g .min))) back
 
 -- a slot ends inside the area
 pub slot-under : (c t k : ℕ) → t < k → t * c + c ≤ k * c
@@ -79,6 +87,9 @@ keep-other area f k c all t x xs ia is b p g n m h =
       small = λ i l u. rw (← noted-other f b p i (omega arith)) (h .small i l u);
       long = h .long ∙ ap length same;
       image = write-other area k c all t x xs ia is (g .slot) (g .size) n (h .room) ∙ h .image ∙ same;
+      newest = λ l.
+          h .newest l
+          ∙ ap length (from-agree f (noted f b p) (g .min) (g .max + 1 - 1 - g .min) (λ i l u. noted-other f b p i (omega arith)));
     }
 
 -- the segment that a record is written to
@@ -97,8 +108,14 @@ keep-grown area f k c all b p g low h fits little few =
       image = ap (λ (j : ℕ). part (g .slot * c) (g .size + j) (splice (g .slot * c + g .size) (recordBytes b p) area)) (sym n)
           ∙ write-grow area k c all (g .slot) (g .size) (recordBytes b p) (h .slot) (omega (arith, n, h .room))
           ∙ ap (λ (l : List ℕ). l ++ recordBytes b p) (h .image) ∙ sym spans;
+      newest = λ l.
+          let back : b ≡ b + 1 - 1 = omega arith in
+          h .long ∙ ap length before ∙ ap (λ (j : ℕ). length (recordsFrom (noted f b p) (g .min) (j - g .min))) back;
     }
   where
+    before : recordsFrom f (g .min) (b - g .min) ≡ recordsFrom (noted f b p) (g .min) (b - g .min)
+    before = from-agree f (noted f b p) (g .min) (b - g .min) (λ i l u. noted-other f b p i (omega arith))
+
     n : length (recordBytes b p) ≡ recordRoom (length p)
     n = record-length b p
 
@@ -109,8 +126,7 @@ keep-grown area f k c all b p g low h fits little few =
         ap (λ (j : ℕ). recordsFrom (noted f b p) (g .min) j) one ∙ from-more (noted f b p) (g .min) (b - g .min)
         ∙ ap (λ (j : ℕ). recordsFrom (noted f b p) (g .min) (b - g .min) ++ recordBytes j (noted f b p j)) two
         ∙ ap (λ (q : List ℕ). recordsFrom (noted f b p) (g .min) (b - g .min) ++ recordBytes b q) (noted-same f b p)
-        ∙ ap (λ (l : List ℕ). l ++ recordBytes b p) (sym (from-agree f (noted f b p) (g .min) (b - g .min)
-        (λ i l u. noted-other f b p i (omega arith))))
+        ∙ ap (λ (l : List ℕ). l ++ recordBytes b p) (sym before)
 
     go : (i : ℕ) (t : Bool) → ltb i b ≡ t → g .min ≤ i → i < b + 1 → length (noted f b p i) ≤ maxPayload
     go i true e l u = rw (← noted-other f b p i (ltb-true i b e)) (h .small i l (ltb-true i b e))

@@ -19,7 +19,8 @@ use Rattle.history.proofs.IndexRows.{rows-are}
 use Rattle.history.proofs.Invariant.{Holds}
 use Rattle.history.proofs.Later.{After, appends-after, after-refl}
 use Rattle.history.proofs.Runs.{heldOf, oldest-log, recent-log, Came, Any, listed-log, on-view, runs-keep}
-use Rattle.history.proofs.Views.{Brings, brings}
+use Rattle.history.proofs.Brings.{Brings}
+use Rattle.history.proofs.Views.{brings}
 
 -- what holds of views holds of their logs
 delivers-views : (a : View) (area : List ℕ) (z : View) (area′ : List ℕ) (f : ℕ → List ℕ) (rows : List ImageRow) (s e : ℕ) (index : List ℕ)

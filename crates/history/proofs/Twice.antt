@@ -17,7 +17,7 @@ use Rattle.history.specs.History.{Held, run, appends, told, lastUnder, b
 use Rattle.history.proofs.Invariant.{some-live}
 use Rattle.history.proofs.Runs.{Came, Any, listed-log, on-view, heldOf, runs-keep}
 use Rattle.history.proofs.Theorem.{later-came, brings-held, accepts-held}
-use Rattle.history.proofs.Views.{Brings}
+use Rattle.history.proofs.Brings.{Brings}
 use Rattle.history.proofs.Whole.{brings-self, whole-log}
 
 -- the same outcome over what it left

@@ -15,7 +15,7 @@ use Rattle.history.specs.Demand.{AnyOrder, rowsFor, listed, idsIn, recov
 use Rattle.history.specs.History.{run, Held, appends, lastUnder, begun}
 use Rattle.history.proofs.Runs.{Came, Any, runs-keep}
 use Rattle.history.proofs.Theorem.{brings-held, later-came, accepts-held, delivers-held}
-use Rattle.history.proofs.Views.{Brings}
+use Rattle.history.proofs.Brings.{Brings}
 
 -- two recoveries against the same earlier log bring the same log and the same words
 pub two-same : (a : View) (area : List ℕ) (z z₀ : View) (area′ area₀ : List ℕ) (f : ℕ → List ℕ) (rows rows₀ : List ImageRow)

@@ -22,7 +22,7 @@ use Rattle.recovery_walk.specs.Scan.{scanOf, judged, liveCount}
 use Rattle.segment.specs.declared.ImageRow.{ImageRow}
 use Rattle.image_rows.specs.ImageRows.{sortRows, rowsFit, lowestZero, oneApart}
 use Rattle.lists.specs.Outcome.{kept}
-use Rattle.recovery.specs.Recovery.{Restored, recoveryOf, recovered, outcomeOf, oneZero}
+use Rattle.recovery.specs.Recovery.{recoveryOf, recovered, outcomeOf, oneZero}
 use Rattle.recovery.specs.Keeping.{keptOf}
 use Rattle.recovery.proofs.Recovery.{recovered-rows}
 use Rattle.seglog.proofs.Fit.{sizes-are}
@@ -30,72 +30,27 @@ use Rattle.segment.specs.Segment.{endedAt}
 use Rattle.segment.specs.Chain.{Chain}
 use Rattle.history.specs.Demand.{idsIn, rowsFor, AnyOrder}
 use Rattle.walk.specs.Records.{recordsFrom}
+use Rattle.seglog_prune.specs.declared.Newest.{Newest}
+use Rattle.history.proofs.Cuts.{recordOf}
+use Rattle.history.proofs.Brings.{Brings}
+use Rattle.history.proofs.OverStates.{placeOfE}
+use Rattle.history.proofs.Read.{readTo, read-front, kept-read}
 use Rattle.history.proofs.Deliver.{delivered, items, deliver-chain, live-items, items-agree}
 use Rattle.history.proofs.Invariant.{Holds, some-live}
 use Rattle.history.proofs.Kept.{Cutting, cut-all}
 use Rattle.history.proofs.Later.{After, first-same, Grows, ended-grows}
 use Rattle.history.proofs.OwnRows.{has-good, rising-rows, length-rows, inside-rows, apart-rows, lowest-rows, next-rows}
-use Rattle.history.proofs.Prunes.{
-  live-low,
-  oldest-holds,
-  New,
-  closedBy,
-  at-new,
-  endedView,
-  recent-is,
-  ended-holds,
-}
+use Rattle.history.proofs.Prunes.{live-low, oldest-holds, New, newestIn, closedBy, at-new, endedView, recent-is, ended-holds}
 use Rattle.history.proofs.Records.{from-agree, from-front, splice-whole}
 use Rattle.history.proofs.Runs.{log-fitting}
 use Rattle.history.proofs.Same.{chain-same, old-rows}
 use Rattle.history.proofs.Over.{Seen}
-use Rattle.history.proofs.Scans.{readTo, read-front, kept-read, Has, start-seen, Through, through, rowsChain, rows-through}
+use Rattle.history.proofs.Scans.{start-seen, Through, through, rowsChain, rows-through}
 use Rattle.history.proofs.Shape.{holds-few, sizes-few}
-use Rattle.history.proofs.Slots.{Stored}
+use Rattle.history.proofs.Slots.{Stored, newest-at}
 use Rattle.lists.proofs.AnyOrder.{any-length}
 use Rattle.history.proofs.Sorts.{sort-any, fit-any, apart-any}
 use Rattle.recovery.specs.Recovery as R
-
--- what recovering s to e from the later log gives, against the earlier one; f has what was last appended up to it
-pub record Brings (a : View) (area : List ℕ) (z : View) (area′ : List ℕ) (f : ℕ → List ℕ) (rows : List ImageRow)
-    (s e room : ℕ) : Type 0 where
-  pub log : View
-  pub words : List ℕ
-  -- it is accepted, and writes no byte of the area
-  pub accepts : recoveryOf (z .k) (z .c) (z .m) area′ rows s e room ≡ recovered log area′ words
-  -- four words for each of s to e
-  pub count : length words ≡ 4 * idsIn s e
-  -- good rows with the payloads last appended under s to e, each once, in order
-  pub payloads : delivered (logOf log) area′ words ≡ items f s (idsIn s e)
-  -- the log is the one that pruning at the earlier moment leaves
-  pub older : View
-  pub first : pruneOldestOf a true area s ≡ pruned older area
-  pub then : pruneRecentOf older true area e ≡ pruned log area
-  -- the index words are those that the earlier images give
-  pub same : words ≡ rowsAll area (a .c) s e (rowsFor (a .segs)) penOf
-  -- the invariant holds of both logs over the earlier area
-  pub older-holds : Holds older area f
-  pub log-holds : Holds log area f
-  -- the images of the log that comes back give the same words, over the earlier area
-  pub kept : rowsAll area (a .c) s e (rowsFor (a .segs)) penOf ≡ rowsAll area (log .c) s e (rowsFor (log .segs)) penOf
-  -- the live range, and the live end between the two prunes
-  pub older-end : older .end ≡ a .end
-  pub start-is : log .start ≡ s
-  pub end-is : log .end ≡ e
-  -- the later log's segment whose image the last one is cut from, and that no padding is missing there
-  pub cut-from : Segment
-  pub cut-listed : Has cut-from (z .segs)
-  pub cut-slot : headOf (log .segs) .slot ≡ cut-from .slot
-  pub cut-whole : headOf (log .segs) .size ≤ cut-from .size
-
--- two accepted recoveries that are equal leave the same log and the same words
-pub recovered-log : {a b : View} {x y ws us : List ℕ} → recovered a x ws ≡ recovered b y us → a ≡ b
-recovered-log {a} q = ap (kept a (λ (r : Restored). r .log)) q
-
-pub recovered-words : {a b : View} {x y ws us : List ℕ} → recovered a x ws ≡ recovered b y us → ws ≡ us
-recovered-words {ws = ws} q = ap (kept ws (λ (r : Restored). r .words)) q
-
--- ---- the theorem
 
 module _ (a : View) (area : List ℕ) (z : View) (area′ : List ℕ) (f f′ : ℕ → List ℕ) (h : Holds a area f) (h′ : Holds z area′ f′)
     (w : After a f z f′) (s e : ℕ) (above : 0 < s) (order : s ≤ e) (from : a .start ≤ s) (to : e ≤ a .end) where
@@ -265,51 +220,58 @@ module _ (a : View) (area : List ℕ) (z : View) (area′ : List ℕ) (f f′ : 
   head-stored =
       has-good area′ f′ (z .k) (z .c) (cutting .y) (z .segs) (h′ .i) (h′ .b) (h′ .j) (z .end + 1) (h′ .chain) (cutting .has)
 
-  head-is : walk .d .«end_of_e» ≡ length (recordsFrom f′ (cutting .y .min) (e + 1 - cutting .y .min))
+  head-is : placeOfE (walk .d) ≡ newestIn f′ (cutting .y) e
   head-is = walk .head (cutting .y) (cutting .has) (cutting .low) (cutting .high)
 
-  head-same : walk .d .«end_of_e» ≡ length (recordsFrom f (cutting .g .min) (e + 1 - cutting .g .min))
+  head-same : placeOfE (walk .d) ≡ newestIn f (cutting .g) e
   head-same =
-      head-is
-      ∙ ap length (from-agree f′ f (cutting .y .min) (e + 1 - cutting .y .min) (λ i l u. w .same i (omega (arith, cutting .low))))
-      ∙ ap (λ (x : ℕ). length (recordsFrom f x (e + 1 - x))) (sym (cutting .more .min))
+      let from : ℕ = cutting .y .min in
+      let same : (n : ℕ) → n ≤ e + 1 - from → length (recordsFrom f′ from n) ≡ length (recordsFrom f from n) =
+      λ n few. ap length (from-agree f′ f from n (λ i l u. w .same i (omega (arith, cutting .low)))) in
+      head-is ∙ (λ i. record { at = same (e - from) (omega arith) i; end = same (e + 1 - from) (omega arith) i })
+      ∙ ap (λ (x : ℕ). recordOf f x e) (sym (cutting .more .min))
 
   whole : walk .d .«end_of_e» ≤ cutting .y .size
   whole =
       let y : Segment = cutting .y in
       let fit = from-front f′ (y .min) (e + 1 - y .min) (y .max + 1 - y .min) (omega (arith, cutting .high)) in
-      omega (arith, fit .0, head-is, head-stored .long)
+      omega (arith, fit .0, ap (λ (x : Newest). x .end) head-is, head-stored .long)
 
   -- the segments that the walk saw, and of them the kept ones: the last of them up to e
   abbrev read : List Segment
-  read = map (readTo e) (z .segs)
+  read = map (readTo f′ e) (z .segs)
 
-  kept-are : keptOf s e read ≡ cutting .hs ++ (readTo e (cutting .y) ∷ [])
+  kept-are : keptOf s e read ≡ cutting .hs ++ (readTo f′ e (cutting .y) ∷ [])
   kept-are =
       let lh = log-holds in
-      kept-read s e (z .segs) above order ∙ ap (map (readTo e)) (cutting .kept) ∙ map-append (readTo e) (cutting .hs) (cutting .y ∷ [])
-      ∙ ap (λ (l : List Segment). l ++ (readTo e (cutting .y) ∷ []))
-      (read-front (Stored area f (log .k) (log .c)) e (cutting .hs) (closedBy f (cutting .g) e ∷ []) (lh .i) (lh .b) (lh .j) (e + 1)
-      (lh .chain) (omega arith))
+      kept-read f′ s e (z .segs) above order ∙ ap (map (readTo f′ e)) (cutting .kept)
+      ∙ map-append (readTo f′ e) (cutting .hs) (cutting .y ∷ [])
+      ∙ ap (λ (l : List Segment). l ++ (readTo f′ e (cutting .y) ∷ []))
+      (read-front (Stored area f (log .k) (log .c)) f′ e (cutting .hs) (closedBy f (cutting .g) e ∷ []) (lh .i) (lh .b) (lh .j) (e + 1)
+      (lh .chain) (omega arith)
+      (λ g low high p.
+      newest-at area f (log .k) (log .c) g p low
+      ∙ sym (ap length (from-agree f′ f (g .min) (g .max - g .min) (λ i l u. w .same i (omega arith))))))
 
-  closed : R.closedOf (z .k) (z .c) (z .m) area′ s e (walk .d .«end_of_e») words (frontOf (keptOf s e read)) (headOf (keptOf s e read))
+  closed : R.closedOf (z .k) (z .c) (z .m) area′ s e (walk .d .«start_of_e») (walk .d .«end_of_e») words (frontOf (keptOf s e read)) (headOf (keptOf s e read))
       ≡ recovered log area′ words
   closed =
-      let y : Segment = readTo e (cutting .y) in
+      let y : Segment = readTo f′ e (cutting .y) in
       let kept : List Segment = keptOf s e read in
       let front : frontOf kept ≡ cutting .hs = ap (λ (l : List Segment). frontOf l) kept-are ∙ front-snoc (cutting .hs) y in
       let head : headOf kept ≡ y = ap (λ (l : List Segment). headOf l) kept-are ∙ head-snoc (cutting .hs) y in
       let first-id : y .min ≡ cutting .g .min = simp (le-leb (cutting .y .min) e (cutting .low)) (sym (cutting .more .min)) in
-      let last : endedAt y e (walk .d .«end_of_e») ≡ closedBy f (cutting .g) e =
+      let last : endedAt y e (walk .d .«start_of_e») (walk .d .«end_of_e») ≡ closedBy f (cutting .g) e =
       λ i. record {
         id = sym (cutting .more .id) i;
         slot = sym (cutting .more .slot) i;
-        size = head-same i;
+        size = head-same i .end;
         min = first-id i;
         max = e;
+        «newest_at» = head-same i .at;
       } in
-      ap (λ (l : List Segment). R.closedOf (z .k) (z .c) (z .m) area′ s e (walk .d .«end_of_e») words l (headOf kept)) front
-      ∙ ap (λ (x : Segment). R.closedOf (z .k) (z .c) (z .m) area′ s e (walk .d .«end_of_e») words (cutting .hs) x) head
+      ap (λ (l : List Segment). R.closedOf (z .k) (z .c) (z .m) area′ s e (walk .d .«start_of_e») (walk .d .«end_of_e») words l (headOf kept)) front
+      ∙ ap (λ (x : Segment). R.closedOf (z .k) (z .c) (z .m) area′ s e (walk .d .«start_of_e») (walk .d .«end_of_e») words (cutting .hs) x) head
       ∙ (λ i. recovered (record { k = z .k; c = z .c; m = z .m; start = s; end = e; segs = cutting .hs ++ (last i ∷ []) })
       (splice-whole (y .slot * z .c + y .size) (walk .d .«end_of_e») (y .size) area′ whole i) words)
 
@@ -367,7 +329,7 @@ module _ (a : View) (area : List ℕ) (z : View) (area′ : List ℕ) (f f′ : 
     accepted : recoveryOf (z .k) (z .c) (z .m) area′ rows s e room ≡ recovered log area′ words
     accepted =
         in-front ∙ ap (outcomeOf (z .k) (z .c) (z .m) area′ s e (sortRows rows)) scanned
-        ∙ ap (λ (l : List ImageRow). R.closedOf (z .k) (z .c) (z .m) area′ s e (walk .d .«end_of_e») (rowsAll area′ (z .c) s e l penOf)
+        ∙ ap (λ (l : List ImageRow). R.closedOf (z .k) (z .c) (z .m) area′ s e (walk .d .«start_of_e») (walk .d .«end_of_e») (rowsAll area′ (z .c) s e l penOf)
         (frontOf (keptOf s e read)) (headOf (keptOf s e read))) sorted ∙ closed
 
     -- demand 3, by views
@@ -393,5 +355,5 @@ module _ (a : View) (area : List ℕ) (z : View) (area′ : List ℕ) (f f′ : 
           cut-from = cutting .y;
           cut-listed = cutting .has;
           cut-slot = ap (λ (x : Segment). x .slot) last ∙ cutting .more .slot;
-          cut-whole = omega (arith, ap (λ (x : Segment). x .size) last, head-same, whole);
+          cut-whole = omega (arith, ap (λ (x : Segment). x .size) last, ap (λ (x : Newest). x .end) head-same, whole);
         }

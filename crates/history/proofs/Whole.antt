@@ -32,8 +32,9 @@ use Rattle.history.proofs.Later.{after-refl}
 use Rattle.seglog_prune.proofs.Decide.{Inner, prune-passes, pruned-same}
 use Rattle.history.proofs.Prunes.{live-low, at-new, closedBy, recent-is}
 use Rattle.history.proofs.Runs.{Any, heldOf, listed-log, Came, runs-keep, on-view}
-use Rattle.history.proofs.Slots.{Stored}
-use Rattle.history.proofs.Views.{brings, Brings}
+use Rattle.history.proofs.Slots.{Stored, newest-at}
+use Rattle.history.proofs.Brings.{Brings}
+use Rattle.history.proofs.Views.{brings}
 
 -- the first segment holds the live start, so none is dropped
 old-none : (s e j : ℕ) (gs : List Segment) → Live s e j gs → dropOld s gs ≡ gs
@@ -95,8 +96,11 @@ module _ (a : View) (area : List ℕ) (f : ℕ → List ℕ) (h : Holds a area f
         let max : t .g .max ≡ a .end = omega (arith, ends .max) in
         let long : length (recordsFrom f (t .g .min) (a .end + 1 - t .g .min)) ≡ t .g .size =
         sym (t .good .long ∙ ap (λ (n : ℕ). length (recordsFrom f (t .g .min) (n + 1 - t .g .min))) max) in
+        let newest : length (recordsFrom f (t .g .min) (a .end - t .g .min)) ≡ t .g .«newest_at» =
+        sym (newest-at area f (a .k) (a .c) (t .g) (t .good) (ends .order)
+        ∙ ap (λ (n : ℕ). length (recordsFrom f (t .g .min) (n - t .g .min))) max) in
         let same : closedBy f (t .g) (a .end) ≡ t .g =
-        λ i. record { id = t .g .id; slot = t .g .slot; size = long i; min = t .g .min; max = sym max i } in
+        λ i. record { id = t .g .id; slot = t .g .slot; size = long i; min = t .g .min; max = sym max i; «newest_at» = newest i } in
         prune-passes a true area (a .end) _ w ∙ recent-is a area f (a .end) h w
         ∙ ap (λ (g : Segment). pruned (startedAt a (a .start) (t .hs ++ (g ∷ []))) area) same
         ∙ ap (λ (gs : List Segment). pruned (startedAt a (a .start) gs) area) split

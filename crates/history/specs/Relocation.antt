@@ -32,7 +32,7 @@ imagesOf area c (r ∷ rs) = record { id = r .id; size = r .size; bytes = imageO
 
 -- a segment without its slot
 abbrev pub placeless : Segment → Segment
-placeless g = record { id = g .id; slot = 0; size = g .size; min = g .min; max = g .max }
+placeless g = record { id = g .id; slot = 0; size = g .size; min = g .min; max = g .max; «newest_at» = g .«newest_at» }
 
 -- a log without K, C, M and its segments' slots
 abbrev pub placelessLog : Log → Log

@@ -1,7 +1,7 @@
 -- The bounds that loops over rows ask, over plain numbers: at a place of a loop's code much else is in scope, which `omega` would read.
 -- Assumes nothing.
 use mathlib.Core.Path.{_≡_}
-use Prim.Native.Nat.{ℕ, _+_, _-_, _*_, _^_, _≤_, _<_}
+use Prim.Native.Nat.{ℕ, _+_, _-_, _^_, _≤_, _<_}
 use native.Mathlib.Omega.{arith}
 use mir.Syntax.{w64}
 use mir.Val.{Fits}
@@ -20,10 +20,6 @@ index-below h s = omega arith
 -- rows that are at most 256
 pub index-fits : {i n : ℕ} → i < n → n ≤ 256 → Fits w64 (i + 1)
 index-fits h s = omega arith
-
--- entries of 32 bytes, 64 at most
-pub entry-fits : {i : ℕ} → i < 64 → Fits w64 (i * 32)
-entry-fits h = omega arith
 
 -- ---- from the last of n rows to the first: i are left
 

@@ -58,7 +58,7 @@ module _ (k c m : ℕ) (area area′ : List ℕ) (rows : List ImageRow) (s e roo
           let w = words-same d gs q in
           rw (← agree .outcome, q) (record {
             answer = ap (λ (ws : List ℕ). recoveryAnswer
-                (closedOf k c m area s e (d .«end_of_e») ws (frontOf (keptOf s e gs)) (headOf (keptOf s e gs)))) w;
+                (closedOf k c m area s e (d .«start_of_e») (d .«end_of_e») ws (frontOf (keptOf s e gs)) (headOf (keptOf s e gs)))) w;
             rows = λ index. ap (λ (ws : List ℕ). ws ++ drop (length ws) index) w;
           })
 

@@ -70,10 +70,12 @@ module _ (k c m : ℕ) (area : List ℕ) (s e room : ℕ) (front later : List Im
       ∙ rw (behind-them .start, behind-them .end) (go (not (d .«found_s»)) (not (d .«found_e»)) (ltb room (4 * liveCount s e)))
       ∙ sym (ap (λ (o : Outcome Found). outcomeOf k c m area s e front (judged s e room o)) walk)
     where
-      closed : closedOf k c m area s e (z .«end_of_e») (rowsAll area c s e (front ++ later) penOf)
+      closed : closedOf k c m area s e (z .«start_of_e») (z .«end_of_e») (rowsAll area c s e (front ++ later) penOf)
           (frontOf (keptOf s e (gs ++ map unread later))) (headOf (keptOf s e (gs ++ map unread later)))
-          ≡ closedOf k c m area s e (d .«end_of_e») (rowsAll area c s e front penOf) (frontOf (keptOf s e gs)) (headOf (keptOf s e gs))
-      closed = λ i. closedOf k c m area s e (behind-them .head i) (whole-words i) (frontOf (same-kept i)) (headOf (same-kept i))
+          ≡ closedOf k c m area s e (d .«start_of_e») (d .«end_of_e») (rowsAll area c s e front penOf) (frontOf (keptOf s e gs))
+          (headOf (keptOf s e gs))
+      closed = λ i.
+          closedOf k c m area s e (behind-them .from i) (behind-them .head i) (whole-words i) (frontOf (same-kept i)) (headOf (same-kept i))
 
       go : (x y t : Bool)
           → outcomeOf k c m area s e (front ++ later)

@@ -1,5 +1,5 @@
 -- What an accepted walk over any images tells: the records of each image go on from those before, whatever bytes the images hold; the
--- images whose records are read come first, and each gives a segment; where s and e are found; and where the record e ends.
+-- images whose records are read come first, and each gives a segment; where s and e are found; where the newest records and e stand.
 -- Assumes nothing.
 use mathlib.Core.Path.{_≡_, refl, sym, ap, subst, _∙_}
 use mathlib.Core.Bool.{Bool, true, false, _&&_, _||_}
@@ -21,7 +21,7 @@ use Rattle.record.specs.Record.{headerAt}
 use Rattle.segment.specs.declared.Segment.{Segment}
 use Rattle.segment.specs.declared.ImageRow.{ImageRow}
 use Rattle.segment.specs.Segment.{imageOf}
-use Rattle.segment.specs.Chain.{Chain, InSlot}
+use Rattle.segment.specs.Chain.{Chain, NewestFits, InSlot}
 use Rattle.segment.proofs.Chain.{chain-le}
 use Rattle.walk.specs.declared.Scan.{Scan}
 use Rattle.walk.specs.declared.Step.the-variants.{Next}
@@ -38,33 +38,39 @@ use Rattle.lists.specs.Each.{all}
 
 -- ---- the records of one image
 
--- a padded end inside a slot of c bytes
-pub record HeadGood (c x : ℕ) : Type 0 where
-  pub some : 1 ≤ x
+-- a record from `at` to its padded end x, inside a slot of c bytes
+pub record HeadGood (c at x : ℕ) : Type 0 where
   pub fits : x ≤ c
   pub whole : x % 4096 ≡ 0
+  pub newest : NewestFits at x
 
--- what the records from the state w to the state d tell; `first` is the id of the first of them
-pub record Ran (c s e : ℕ) (w d : Scan) : Type 0 where
+-- where the record e stands at the state, in a slot of c bytes
+abbrev pub EGood : ℕ → Scan → Type 0
+EGood c w = HeadGood c (w .«start_of_e») (w .«end_of_e»)
+
+-- what the records from the state w, on a whole page, to the state d tell of an image of `size` bytes; `first` is the id of the first of them
+pub record Ran (size c s e : ℕ) (w d : Scan) : Type 0 where
   pub first : ℕ
   pub follows : Follows (w .last) first
   pub upto : first ≤ d .last
   pub min : d .min ≡ pick (eqb (w .min) 0) first (w .min)
   pub max : d .max ≡ d .last
+  pub pages : d .pos % 4096 ≡ 0
+  pub newest : NewestFits (d .«newest_at») size
   pub start : w .«found_s» ≡ false → d .«found_s» ≡ true → (first ≤ s) × (s ≤ d .last)
   pub end : w .«found_e» ≡ false → d .«found_e» ≡ true → (first ≤ e) × (e ≤ d .last)
-  pub head : (w .«found_e» ≡ true → HeadGood c (w .«end_of_e»)) → d .«found_e» ≡ true → HeadGood c (d .«end_of_e»)
+  pub head : (w .«found_e» ≡ true → EGood c w) → d .«found_e» ≡ true → EGood c d
 
 -- the record e is live, so its payload ends inside the image, and its padding inside the slot
-head-good : (c size s e end : ℕ) → size ≤ c → c % 4096 ≡ 0 → s ≤ e → 1 ≤ end → cutOf size s e e end ≡ false
-    → HeadGood c (paddedEnd 4096 end)
+head-good : (c size s e at end : ℕ) → size ≤ c → c % 4096 ≡ 0 → s ≤ e → at % 4096 ≡ 0 → at + 12 ≤ end → cutOf size s e e end ≡ false
+    → HeadGood c at (paddedEnd 4096 end)
 unfolding cutOf liveOf
-head-good c size s e end in-slot whole order some cut =
+head-good c size s e at end in-slot whole order page some cut =
     let short : ltb size end ≡ false = simp (le-leb s e order, le-leb e e (omega arith)) at cut in
     record {
-      some = omega (arith, pad-ge 4096 end (lit< tt));
       fits = pad-least 4096 end (lit< tt) c whole (omega (arith, ltb-false size end short));
       whole = pad-multiple 4096 end (lit< tt);
+      newest = record { pages = page; header = omega (arith, pad-ge 4096 end (lit< tt)) };
     }
 
 -- a flag that a record set is that of the record
@@ -79,9 +85,9 @@ set-before false now b e f t = both-ways b (sym e ∙ t) f
 
 module _ (img : List ℕ) (c s e : ℕ) (in-slot : length img ≤ c) (whole : c % 4096 ≡ 0) (order : s ≤ e) where
   -- one record
-  ran-one : (w d : Scan) → recordStep img s e w ≡ Next d → Ran c s e w d
+  ran-one : (w d : Scan) → w .pos % 4096 ≡ 0 → recordStep img s e w ≡ Next d → Ran (length img) c s e w d
   unfolding advancedOf
-  ran-one w d m =
+  ran-one w d page m =
       let g = went (length img) s e w (headerAt img (w .pos)) d m in
       let id = g .id in
       let end : ℕ = w .pos + 12 + g .len in
@@ -92,6 +98,9 @@ module _ (img : List ℕ) (c s e : ℕ) (in-slot : length img ≤ c) (whole : c 
         upto = omega arith;
         min = ap (λ (x : Scan). x .min) (g .to);
         max = ap (λ (x : Scan). x .max) (g .to) ∙ sym last;
+        pages = ap (λ (x : Scan). x .pos % 4096) (g .to) ∙ pad-multiple 4096 end (lit< tt);
+        newest = subst (λ (x : ℕ). NewestFits x (length img)) (sym (ap (λ (x : Scan). x .«newest_at») (g .to)))
+            (record { pages = page; header = g .inside .room });
         start = λ f t.
             let here = set-here (w .«found_s») (d .«found_s») id s (ap (λ (x : Scan). x .«found_s») (g .to)) f t in
             (omega arith, omega arith);
@@ -99,20 +108,18 @@ module _ (img : List ℕ) (c s e : ℕ) (in-slot : length img ≤ c) (whole : c 
             let here = set-here (w .«found_e») (d .«found_e») id e (ap (λ (x : Scan). x .«found_e») (g .to)) f t in
             (omega arith, omega arith);
         head = λ was t.
-            let at : d .«end_of_e» ≡ pick (eqb id e) (paddedEnd 4096 end) (w .«end_of_e») = ap (λ (x : Scan). x .«end_of_e») (g .to) in
-            by-test (eqb id e)
+            subst (EGood c) (sym (g .to))
+            (by-test (eqb id e)
             (λ q.
             let here : id ≡ e = eqb-true id e q in
             let cut : cutOf (length img) s e e end ≡ false = subst (λ (x : ℕ). cutOf (length img) s e x end ≡ false) here (g .whole) in
-            subst (HeadGood c) (sym (at ∙ ap (λ (b : Bool). pick b (paddedEnd 4096 end) (w .«end_of_e»)) q))
-            (head-good c (length img) s e end in-slot whole order (omega arith) cut))
+            rw q (head-good c (length img) s e (w .pos) end in-slot whole order page (omega arith) cut))
             (λ q.
-            let old = set-before (w .«found_e») (d .«found_e») (eqb id e) (ap (λ (x : Scan). x .«found_e») (g .to)) q t in
-            subst (HeadGood c) (sym (at ∙ ap (λ (b : Bool). pick b (paddedEnd 4096 end) (w .«end_of_e»)) q)) (was old));
+            rw q (was (set-before (w .«found_e») (d .«found_e») (eqb id e) (ap (λ (x : Scan). x .«found_e») (g .to)) q t))));
       }
 
   -- some records, and some more
-  ran-join : (w d z : Scan) → Ran c s e w d → Ran c s e d z → Ran c s e w z
+  ran-join : (w d z : Scan) → Ran (length img) c s e w d → Ran (length img) c s e d z → Ran (length img) c s e w z
   ran-join w d z p q =
       let on : q .first ≡ d .last + 1 = q .follows .next (λ h. omega (arith, p .follows .some, p .upto)) in
       let some = p .follows .some in
@@ -126,6 +133,8 @@ module _ (img : List ℕ) (c s e : ℕ) (in-slot : length img ≤ c) (whole : c 
             ∙ ap (λ (b : Bool). pick b (q .first) (d .min))
             (ne-eqb (d .min) 0 (λ h. kept-min (eqb (w .min) 0) refl (sym (p .min) ∙ h) (p .follows .some))) ∙ p .min;
         max = q .max;
+        pages = q .pages;
+        newest = q .newest;
         start = λ f t.
             by-test (d .«found_s»)
             (λ b. let h = p .start f b in (h .0, omega (arith, h .1)))
@@ -142,12 +151,16 @@ module _ (img : List ℕ) (c s e : ℕ) (in-slot : length img ≤ c) (whole : c 
       kept-min false g h l = eqb-false (w .min) 0 g h
 
   -- no record, at the image's end; or some
-  walk-ran : (w d : Scan) → walkOf img s e w ≡ Ended d → ((moreOf w (length img) ≡ false) × (w ≡ d)) ⊎ Ran c s e w d
+  abbrev Walks : Scan → Scan → Type 0
+  Walks w d = w .pos % 4096 ≡ 0 → ((moreOf w (length img) ≡ false) × (w ≡ d)) ⊎ Ran (length img) c s e w d
+
+  walk-ran : (w d : Scan) → walkOf img s e w ≡ Ended d → Walks w d
   walk-ran =
-      walk-keeps (length img) (headerAt img) s e (λ w d. ((moreOf w (length img) ≡ false) × (w ≡ d)) ⊎ Ran c s e w d)
-      (λ w d z h m on. inr
-      (⊎-elim (λ o. subst (Ran c s e w) (o .1) (ran-one w d m)) (λ o. ran-join w d z (ran-one w d m) o) on))
-      (λ w h. inl (h, refl))
+      walk-keeps (length img) (headerAt img) s e Walks
+      (λ w d z h m on page.
+      let one = ran-one w d page m in
+      inr (⊎-elim (λ o. subst (Ran (length img) c s e w) (o .1) one) (λ o. ran-join w d z one o) (on (one .pages))))
+      (λ w h page. inl (h, refl))
 
 -- ---- the images
 
@@ -168,7 +181,7 @@ pub record Tells (k c s e i : ℕ) (w d : Scan) (gs : List Segment) : Type 0 whe
   pub empty : Empties zs
   pub start : w .«found_s» ≡ false → d .«found_s» ≡ true → (b ≤ s) × (s ≤ d .last)
   pub end : w .«found_e» ≡ false → d .«found_e» ≡ true → (b ≤ e) × (e ≤ d .last)
-  pub head : (w .«found_e» ≡ true → HeadGood c (w .«end_of_e»)) → d .«found_e» ≡ true → HeadGood c (d .«end_of_e»)
+  pub head : (w .«found_e» ≡ true → EGood c w) → d .«found_e» ≡ true → EGood c d
 
 -- an id that follows the last one
 after-last : (last : ℕ) → Follows last (last + 1)
@@ -190,6 +203,7 @@ module _ (area : List ℕ) (k c s e : ℕ) (all : length area ≡ k * c) (whole 
     pub last : d .last ≡ w .last
     pub start : d .«found_s» ≡ w .«found_s»
     pub end : d .«found_e» ≡ w .«found_e»
+    pub from : d .«start_of_e» ≡ w .«start_of_e»
     pub head : d .«end_of_e» ≡ w .«end_of_e»
 
   -- an image without a record to read
@@ -230,6 +244,7 @@ module _ (area : List ℕ) (k c s e : ℕ) (all : length area ≡ k * c) (whole 
         last = sym (ap (λ (x : Scan). x .last) (same .0));
         start = sym (ap (λ (x : Scan). x .«found_s») (same .0));
         end = sym (ap (λ (x : Scan). x .«found_e») (same .0));
+        from = sym (ap (λ (x : Scan). x .«start_of_e») (same .0));
         head = sym (ap (λ (x : Scan). x .«end_of_e») (same .0));
       }
   quiet (r ∷ rs) w d gs h was q =
@@ -244,6 +259,7 @@ module _ (area : List ℕ) (k c s e : ℕ) (all : length area ≡ k * c) (whole 
         last = more .last ∙ sym (ap (λ (x : Scan). x .last) same);
         start = more .start ∙ sym (ap (λ (x : Scan). x .«found_s») same);
         end = more .end ∙ sym (ap (λ (x : Scan). x .«found_e») same);
+        from = more .from ∙ sym (ap (λ (x : Scan). x .«start_of_e») same);
         head = more .head ∙ sym (ap (λ (x : Scan). x .«end_of_e») same);
       }
 
@@ -264,7 +280,7 @@ module _ (area : List ℕ) (k c s e : ℕ) (all : length area ≡ k * c) (whole 
         empty = tt;
         start = λ f t. both-ways (w .«found_s») (ap (λ (x : Scan). x .«found_s») same ∙ t) f;
         end = λ f t. both-ways (w .«found_e») (ap (λ (x : Scan). x .«found_e») same ∙ t) f;
-        head = λ was t. subst (HeadGood c) (ap (λ (x : Scan). x .«end_of_e») same) (was (ap (λ (x : Scan). x .«found_e») same ∙ t));
+        head = λ was t. subst (EGood c) same (was (ap (λ (x : Scan). x .«found_e») same ∙ t));
       }
   images-tell (r ∷ rs) i w d gs h ids q =
       let f = first-walked area c s e r w rs d gs q in
@@ -302,8 +318,9 @@ module _ (area : List ℕ) (k c s e : ℕ) (all : length area ≡ k * c) (whole 
             start = λ f t. both-ways (w .«found_s») (ap (λ (x : Scan). x .«found_s») same ∙ sym (o .start) ∙ t) f;
             end = λ f t. both-ways (w .«found_e») (ap (λ (x : Scan). x .«found_e») same ∙ sym (o .end) ∙ t) f;
             head = λ was t.
-                subst (HeadGood c) (ap (λ (x : Scan). x .«end_of_e») same ∙ sym (o .head))
-                (was (ap (λ (x : Scan). x .«found_e») same ∙ sym (o .end) ∙ t));
+                subst (λ (x : ℕ). HeadGood c x (d .«end_of_e»)) (ap (λ (x : Scan). x .«start_of_e») same ∙ sym (o .from))
+                (subst (HeadGood c (w .«start_of_e»)) (ap (λ (x : Scan). x .«end_of_e») same ∙ sym (o .head))
+                (was (ap (λ (x : Scan). x .«found_e») same ∙ sym (o .end) ∙ t)));
           }
 
       filled-first : (r : ImageRow) (w d : Scan) (gs : List Segment) (m : Scan) (later : List Segment) → r .slot < k → r .size ≤ c
@@ -312,9 +329,9 @@ module _ (area : List ℕ) (k c s e : ℕ) (all : length area ≡ k * c) (whole 
       filled-first r w d gs m later slot size some on id ended o segs =
           let long = image-long r slot size in
           let from : Scan = openedOf w (r .size) in
-          let ran : Ran c s e from m =
+          let ran : Ran (length (imageOf area c r)) c s e from m =
           ⊎-elim (λ z. absurd (omega (arith, more-over from (length (imageOf area c r)) (opened-goes w (r .size) ∙ on) (z .0)))) (λ z. z)
-          (walk-ran (imageOf area c r) c s e (omega arith) whole order from m ended) in
+          (walk-ran (imageOf area c r) c s e (omega arith) whole order from m ended refl) in
           let up = ran .upto in
           let from-b : o .b ≡ m .last + 1 = o .follows .next (λ z. omega (arith, ran .follows .some)) in
           let next : m .max + 1 ≡ o .b = ap (λ (x : ℕ). x + 1) (ran .max) ∙ sym from-b in
@@ -332,7 +349,12 @@ module _ (area : List ℕ) (k c s e : ℕ) (all : length area ≡ k * c) (whole 
                 id = id;
                 min = ran .min;
                 order = omega (arith, ran .max);
-                good = record { slot = slot; some = omega arith; size = size };
+                good = record {
+                  slot = slot;
+                  some = omega arith;
+                  size = size;
+                  newest = subst (NewestFits (m .«newest_at»)) long (ran .newest);
+                };
               },
               subst (λ (x : ℕ). Chain (InSlot k c) (i + 1) x (o .ys) (o .j) (d .last + 1)) (sym next) (o .chain),
             );

@@ -126,9 +126,9 @@ set-last gs x h =
 pub count-last : (gs : List Segment) (x : Segment) → 0 < length gs → length gs - 1 + 1 ≡ length (frontOf gs ++ (x ∷ []))
 count-last gs x h = simp (length-append, length-take) (omega arith)
 
--- ---- closing, on plain values: the kept segments gs stand in their entries, and the last one is closed at x
+-- ---- closing, on plain values: the kept segments gs stand in their entries, and the last one is closed at e, from `at` to x
 
-module _ (k c m s e n x : ℕ) (area : List ℕ) (gs : List Segment) (kept : Kept)
+module _ (k c m s e n at x : ℕ) (area : List ℕ) (gs : List Segment) (kept : Kept)
     (is : kept ≡ record { count = length gs; segs = entriesOf gs }) (pre : ClosePre c s e n x area gs) where
   abbrev last-entry : Segment
   last-entry = getD (kept .segs) (kept .count - 1) noSegment
@@ -137,16 +137,16 @@ module _ (k c m s e n x : ℕ) (area : List ℕ) (gs : List Segment) (kept : Kep
   last-is = ap (λ (q : Kept). getD (q .segs) (q .count - 1) noSegment) is ∙ head-entry gs (pre .some)
 
   -- the log and the area
-  pub close-did : (area′ : List ℕ) (y : Segment) → y ≡ endedAt last-entry e x
+  pub close-did : (area′ : List ℕ) (y : Segment) → y ≡ endedAt last-entry e at x
       → area′ ≡ truncatedArea area c (last-entry .slot) (last-entry .size) x
-      → CloseDid k c m s e x gs area area′ (record {
+      → CloseDid k c m s e at x gs area area′ (record {
         refusal = 0;
         rows = e - s + 1;
         log = record { k = k; c = c; m = m; start = s; end = e; count = kept .count - 1 + 1; segs = set (kept .segs) (kept .count - 1) y };
       })
   close-did area′ y is-y wrote =
-      let z : Segment = endedAt (headOf gs) e x in
-      let same : y ≡ z = is-y ∙ ap (λ (g : Segment). endedAt g e x) last-is in
+      let z : Segment = endedAt (headOf gs) e at x in
+      let same : y ≡ z = is-y ∙ ap (λ (g : Segment). endedAt g e at x) last-is in
       let many : kept .count - 1 + 1 ≡ length (frontOf gs ++ (z ∷ [])) =
       ap (λ (q : Kept). q .count - 1 + 1) is ∙ count-last gs z (pre .some) in
       let put : set (kept .segs) (kept .count - 1) y ≡ entriesOf (frontOf gs ++ (z ∷ [])) =

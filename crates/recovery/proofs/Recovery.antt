@@ -106,12 +106,12 @@ module _ (k c m : ℕ) (area : List ℕ) (rows : List ImageRow) (s e room : ℕ)
 
   -- ---- a scan's outcome
 
-  -- what an accepted scan leaves: the last kept segment g closed at e, whose padded end is x
+  -- what an accepted scan leaves: the last kept segment closed at e
   pub record Left (a : View) (area′ words : List ℕ) : Type 0 where
     pub d : Scan
     pub gs : List Segment
     pub out : scanOf area c s e (sortRows rows) room ≡ walked d gs
-    pub view : a ≡ closedView k c m s e (d .«end_of_e») (keptOf s e gs)
+    pub view : a ≡ closedView k c m s e (d .«start_of_e») (d .«end_of_e») (keptOf s e gs)
     pub bytes : area′ ≡ paddedTo c area (headOf (keptOf s e gs)) (d .«end_of_e»)
     pub index : words ≡ rowsAll area c s e (sortRows rows) penOf
 
@@ -136,7 +136,7 @@ module _ (k c m : ℕ) (area : List ℕ) (rows : List ImageRow) (s e room : ℕ)
     ids : Ids (sortRows rows)
     ids = ids-are (sortRows rows) (p .low) (p .apart)
 
-    keeps : Keeps k c s e (ids .i) (w .d .«end_of_e») (w .gs)
+    keeps : Keeps k c s e (ids .i) (w .d .«start_of_e») (w .d .«end_of_e») (w .gs)
     keeps =
         scan-keeps area k c s e (ids .i) room (sortRows rows) (w .d) (w .gs) (sizes .area) (sizes .sizes .whole-pages) (p .order) some
         (sort-inside k c rows (fit-is k c rows (p .fit) .inside)) (ids .from) went
@@ -153,9 +153,8 @@ module _ (k c m : ℕ) (area : List ℕ) (rows : List ImageRow) (s e room : ℕ)
     scan-fits =
         let shaped : shapedOf a ≡ true =
         ap shapedOf (w .view)
-        ∙ closed-shaped k c m s e (ids .i) (w .d .«end_of_e») (keptOf s e (w .gs)) (are-sizes k c m (sizes .sizes)) (ids .some)
-        (p .order) (keeps .whole)
-        (keeps .head) own in
+        ∙ closed-shaped k c m s e (ids .i) (w .d .«start_of_e») (w .d .«end_of_e») (keptOf s e (w .gs)) (are-sizes k c m (sizes .sizes))
+        (ids .some) (p .order) (keeps .whole) (keeps .head) own in
         let long : length area′ ≡ a .k * a .c =
         ap length (w .bytes) ∙ splice-length _ _ area ∙ sizes .area ∙ sym (ap (λ (v : View). v .k * v .c) (w .view)) in
         both-and (shapedOf a) (eqb (length area′) (a .k * a .c)) shaped (eq-eqb (length area′) (a .k * a .c) long)
@@ -213,8 +212,9 @@ module _ (k c m : ℕ) (area : List ℕ) (rows : List ImageRow) (s e room : ℕ)
           let zeros : List ℕ = replicate (x - g .size) 0 in
           let long : length zeros ≡ x - g .size = length-replicate {A = ℕ} (x - g .size) 0 in
           let at : ℕ = g .slot * c + g .size in
-          let closed : headOf (a .segs) ≡ endedAt g e x =
-          ap (λ (v : View). headOf (v .segs)) (w .view) ∙ head-snoc (frontOf (keptOf s e (w .gs))) (endedAt g e x) in
+          let head : Segment = endedAt g e (w .d .«start_of_e») x in
+          let closed : headOf (a .segs) ≡ head =
+          ap (λ (v : View). headOf (v .segs)) (w .view) ∙ head-snoc (frontOf (keptOf s e (w .gs))) head in
           let end : headOf (a .segs) .size ≡ x = ap (λ (z : Segment). z .size) closed in
           record {
             slot = g .slot;

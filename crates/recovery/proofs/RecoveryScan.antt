@@ -79,13 +79,13 @@ scan-number area c s e rs words m q = by (images area c s e rs startOf) refl q
         go true true false w = zero-is-not-one (cc)
 
 -- what an accepted scan keeps
-pub record Keeps (k c s e i x : ℕ) (gs : List Segment) : Type 0 where
+pub record Keeps (k c s e i at x : ℕ) (gs : List Segment) : Type 0 where
   pub whole : Whole s e (InSlot k c) i (keptOf s e gs)
-  pub head : HeadGood c x
+  pub head : HeadGood c at x
 
 pub scan-keeps : (area : List ℕ) (k c s e i room : ℕ) (rs : List ImageRow) (d : Scan) (gs : List Segment) → length area ≡ k * c
     → c % 4096 ≡ 0 → s ≤ e → (s ≡ 0 → ⊥) → rowsInside k c rs ≡ true → IdsFrom i rs
-    → Accepted s e room (images area c s e rs startOf) d gs → Keeps k c s e i (d .«end_of_e») gs
+    → Accepted s e room (images area c s e rs startOf) d gs → Keeps k c s e i (d .«start_of_e») (d .«end_of_e») gs
 scan-keeps area k c s e i room rs d gs all pages order some inside ids a =
     let t = images-tell area k c s e all pages order rs i startOf d gs inside ids (a .walk) in
     let start = t .start refl (a .start) in
@@ -192,13 +192,13 @@ module _ (k c m : ℕ) (area : List ℕ) (images-in : Rows) (s e : ℕ) (index :
 
       -- accepted: what closing did is what recovery says
       pub did-close : (x : Recovered) (area′ : List ℕ)
-          → CloseDid k c m s e (r .scan .«end_of_e») (keptOf s e (take n (r .segs))) area area′ x
+          → CloseDid k c m s e (r .scan .«start_of_e») (r .scan .«end_of_e») (keptOf s e (take n (r .segs))) area area′ x
           → RecoveryDid (scanned k c m area rs s e (length index)) area index x area′ index′
       unfolding indexOf
       did-close x area′ closed =
           let words : List ℕ = rowsAll area c s e rs penOf in
           let done : scanned k c m area rs s e (length index)
-          ≡ recovered (closedView k c m s e (r .scan .«end_of_e») (keptOf s e (w .gs)))
+          ≡ recovered (closedView k c m s e (r .scan .«start_of_e») (r .scan .«end_of_e») (keptOf s e (w .gs)))
           (paddedTo c area (headOf (keptOf s e (w .gs))) (r .scan .«end_of_e»))
           words =
           ap (outcomeOf k c m area s e rs) (w .out) in
@@ -210,12 +210,12 @@ module _ (k c m : ℕ) (area : List ℕ) (images-in : Rows) (s e : ℕ) (index :
                 ∙ ap (λ (l : List Segment). record {
                   refusal = 0;
                   rows = liveCount s e;
-                  log = logOf (closedView k c m s e (r .scan .«end_of_e») (keptOf s e l));
+                  log = logOf (closedView k c m s e (r .scan .«start_of_e») (r .scan .«end_of_e») (keptOf s e l));
                 }) listed
                 ∙ ap (λ (y : ℕ). record {
                   refusal = 0;
                   rows = y;
-                  log = logOf (closedView k c m s e (r .scan .«end_of_e») (keptOf s e (w .gs)));
+                  log = logOf (closedView k c m s e (r .scan .«start_of_e») (r .scan .«end_of_e») (keptOf s e (w .gs)));
                 }) live ∙ sym (ap recoveryAnswer done);
             bytes = closed .bytes ∙ ap (λ (l : List Segment). paddedTo c area (headOf (keptOf s e l)) (r .scan .«end_of_e»)) listed
                 ∙ sym (ap (recoveryArea area) done);

@@ -79,43 +79,48 @@ last-apart hs g x q h =
 -- ---- the log
 
 -- the first segment holds s, the last one ends with e and a page
-closed-ends : (P : Segment → Type 0) (i b s e x : ℕ) (hs : List Segment) (g : Segment) → Chain P i b hs (g .id) (g .min) → b ≤ s
-    → s ≤ getD (hs ++ (g ∷ [])) 0 noSegment .max → s ≤ e → x % 4096 ≡ 0 → endsOf s e (hs ++ (endedAt g e x ∷ [])) ≡ true
+closed-ends : (P : Segment → Type 0) (i b s e at x : ℕ) (hs : List Segment) (g : Segment) → Chain P i b hs (g .id) (g .min) → b ≤ s
+    → s ≤ getD (hs ++ (g ∷ [])) 0 noSegment .max → s ≤ e → x % 4096 ≡ 0 → endsOf s e (hs ++ (endedAt g e at x ∷ [])) ≡ true
 unfolding endsOf
-closed-ends P i b s e x [] g h low high order whole =
+closed-ends P i b s e at x [] g h low high order whole =
     simp (le-leb (g .min) s (omega (arith, h .1)), le-leb s e order, eq-eqb (x % 4096) 0 whole, eq-eqb e e refl)
-closed-ends P i b s e x (y ∷ hs) g h low high order whole =
-    let last : headOf (y ∷ hs ++ (endedAt g e x ∷ [])) ≡ endedAt g e x = head-snoc (y ∷ hs) (endedAt g e x) in
+closed-ends P i b s e at x (y ∷ hs) g h low high order whole =
+    let last : headOf (y ∷ hs ++ (endedAt g e at x ∷ [])) ≡ endedAt g e at x = head-snoc (y ∷ hs) (endedAt g e at x) in
     simp (
       le-leb (y .min) s (omega (arith, h .0 .min)),
       le-leb s (y .max) high,
-      eq-eqb (headOf (y ∷ hs ++ (endedAt g e x ∷ [])) .size % 4096) 0 (ap (λ (z : Segment). z .size % 4096) last ∙ whole),
-      eq-eqb (headOf (y ∷ hs ++ (endedAt g e x ∷ [])) .max) e (ap (λ (z : Segment). z .max) last),
+      eq-eqb (headOf (y ∷ hs ++ (endedAt g e at x ∷ [])) .size % 4096) 0 (ap (λ (z : Segment). z .size % 4096) last ∙ whole),
+      eq-eqb (headOf (y ∷ hs ++ (endedAt g e at x ∷ [])) .max) e (ap (λ (z : Segment). z .max) last),
     )
 
 -- the front of kept segments and the head closed at e
-closed-same : (e x : ℕ) (gs hs : List Segment) (g : Segment) → gs ≡ hs ++ (g ∷ [])
-    → frontOf gs ++ (endedAt (headOf gs) e x ∷ []) ≡ hs ++ (endedAt g e x ∷ [])
-closed-same e x gs hs g q =
-    ap (λ (l : List Segment). frontOf l ++ (endedAt (headOf l) e x ∷ [])) q
-    ∙ ap (λ (l : List Segment). l ++ (endedAt (headOf (hs ++ (g ∷ []))) e x ∷ [])) (front-snoc hs g)
-    ∙ ap (λ (z : Segment). hs ++ (endedAt z e x ∷ [])) (head-snoc hs g)
+closed-same : (e at x : ℕ) (gs hs : List Segment) (g : Segment) → gs ≡ hs ++ (g ∷ [])
+    → frontOf gs ++ (endedAt (headOf gs) e at x ∷ []) ≡ hs ++ (endedAt g e at x ∷ [])
+closed-same e at x gs hs g q =
+    ap (λ (l : List Segment). frontOf l ++ (endedAt (headOf l) e at x ∷ [])) q
+    ∙ ap (λ (l : List Segment). l ++ (endedAt (headOf (hs ++ (g ∷ []))) e at x ∷ [])) (front-snoc hs g)
+    ∙ ap (λ (z : Segment). hs ++ (endedAt z e at x ∷ [])) (head-snoc hs g)
 
 -- the kept segments of an accepted walk, the last one closed at e: a well-shaped log
-pub closed-shaped : (k c m s e i x : ℕ) (gs : List Segment) → sizesOf k c m ≡ true → 1 ≤ i → s ≤ e → Whole s e (InSlot k c) i gs
-    → HeadGood c x → slotsApart gs ≡ true → shapedOf (closedView k c m s e x gs) ≡ true
+pub closed-shaped : (k c m s e i at x : ℕ) (gs : List Segment) → sizesOf k c m ≡ true → 1 ≤ i → s ≤ e → Whole s e (InSlot k c) i gs
+    → HeadGood c at x → slotsApart gs ≡ true → shapedOf (closedView k c m s e at x gs) ≡ true
 unfolding shapedOf
-closed-shaped k c m s e i x gs sizes some-id order w x-good apart =
+closed-shaped k c m s e i at x gs sizes some-id order w x-good apart =
     let hs = w .cut .hs in
     let g = w .cut .g in
-    let ys : List Segment = hs ++ (endedAt g e x ∷ []) in
+    let ys : List Segment = hs ++ (endedAt g e at x ∷ []) in
     let closed : Chain (InSlot k c) (w .j) (w .b) ys (g .id + 1) (e + 1) =
-    chain-more (InSlot k c) hs (endedAt g e x) (w .j) (w .b) (w .cut .left) (w .cut .low)
-    (record { slot = w .cut .good .slot; some = x-good .some; size = x-good .fits }) in
+    chain-more (InSlot k c) hs (endedAt g e at x) (w .j) (w .b) (w .cut .left) (w .cut .low)
+    (record {
+      slot = w .cut .good .slot;
+      some = omega (arith, x-good .newest .header);
+      size = x-good .fits;
+      newest = x-good .newest;
+    }) in
     let chain = chain-passes k c ys (w .j) (w .b) (g .id + 1) (e + 1) (omega (arith, w .from)) (w .some) closed in
-    let own : slotsApart ys ≡ true = last-apart hs g (endedAt g e x) refl (ap slotsApart (sym (w .cut .is)) ∙ apart) in
+    let own : slotsApart ys ≡ true = last-apart hs g (endedAt g e at x) refl (ap slotsApart (sym (w .cut .is)) ∙ apart) in
     let few : length ys ≤ k = pigeons slotNumber k ys own (chain-below k c ys chain) in
     let high = subst (λ (l : List Segment). s ≤ getD l 0 noSegment .max) (w .cut .is) (w .start-high) in
-    let ends = closed-ends (InSlot k c) (w .j) (w .b) s e x hs g (w .cut .left) (w .start-low) high order (x-good .whole) in
+    let ends = closed-ends (InSlot k c) (w .j) (w .b) s e at x hs g (w .cut .left) (w .start-low) high order (x-good .whole) in
     subst (λ (l : List Segment). shapedOf (record { k = k; c = c; m = m; start = s; end = e; segs = l }) ≡ true)
-    (sym (closed-same e x gs hs g (w .cut .is))) (simp (sizes, le-leb (length ys) k few, chain, own, ends))
+    (sym (closed-same e at x gs hs g (w .cut .is))) (simp (sizes, le-leb (length ys) k few, chain, own, ends))

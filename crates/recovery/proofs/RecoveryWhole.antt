@@ -58,17 +58,17 @@ module _ (s e : ℕ) (some : 0 < e) (order : s ≤ e) (above : 0 < s) where
   kept-last fs g gs h =
       kept-join fs (g ∷ gs) ∙ ap (λ (l : List Segment). keptOf s e fs ++ pick (holdsLive s e g) (g ∷ l) l) (kept-blank gs h)
 
-  module _ (k c m : ℕ) (area : List ℕ) (x : ℕ) (words : List ℕ) where
+  module _ (k c m : ℕ) (area : List ℕ) (at x : ℕ) (words : List ℕ) where
     -- the outcome of closing kept segments
     abbrev closing : List Segment → Recovery
-    closing gs = closedOf k c m area s e x words (frontOf gs) (headOf gs)
+    closing gs = closedOf k c m area s e at x words (frontOf gs) (headOf gs)
 
-    -- closing goes by all of the last segment but its max
+    -- closing goes by all of the last segment but its newest record
     close-last : (fs : List Segment) (g h : Segment) → h .id ≡ g .id → h .slot ≡ g .slot → h .size ≡ g .size → h .min ≡ g .min
         → closing (fs ++ (h ∷ [])) ≡ closing (fs ++ (g ∷ []))
     close-last fs g h id slot size min =
-        ap (λ (l : List Segment). closedOf k c m area s e x words l (headOf (fs ++ (h ∷ [])))) (front-snoc fs h)
-        ∙ ap (closedOf k c m area s e x words fs) (head-snoc fs h)
+        ap (λ (l : List Segment). closedOf k c m area s e at x words l (headOf (fs ++ (h ∷ [])))) (front-snoc fs h)
+        ∙ ap (closedOf k c m area s e at x words fs) (head-snoc fs h)
         ∙ (λ i. recovered
         (record {
           k = k;
@@ -76,11 +76,11 @@ module _ (s e : ℕ) (some : 0 < e) (order : s ≤ e) (above : 0 < s) where
           m = m;
           start = s;
           end = e;
-          segs = fs ++ (record { id = id i; slot = slot i; size = x; min = min i; max = e } ∷ []);
+          segs = fs ++ (record { id = id i; slot = slot i; size = x; min = min i; max = e; «newest_at» = at } ∷ []);
         })
-        (paddedTo c area (record { id = id i; slot = slot i; size = size i; min = min i; max = e }) x) words)
-        ∙ sym (ap (closedOf k c m area s e x words fs) (head-snoc fs g))
-        ∙ sym (ap (λ (l : List Segment). closedOf k c m area s e x words l (headOf (fs ++ (g ∷ [])))) (front-snoc fs g))
+        (paddedTo c area (record { id = id i; slot = slot i; size = size i; min = min i; max = e; «newest_at» = at }) x) words)
+        ∙ sym (ap (closedOf k c m area s e at x words fs) (head-snoc fs g))
+        ∙ sym (ap (λ (l : List Segment). closedOf k c m area s e at x words l (headOf (fs ++ (g ∷ [])))) (front-snoc fs g))
 
     -- the segments that the walk to e saw close to the same as those of the whole walk
     close-same : (gs hs : List Segment) → (gs ≡ hs) ⊎ Differ s e some order gs hs → closing (keptOf s e hs) ≡ closing (keptOf s e gs)
@@ -142,5 +142,5 @@ accepted-stays k c m area rows s e room z gs walks whole start end enough =
     let found : scanOf area c s e (sortRows rows) room ≡ walked (b .d) (b .segs) =
     ap (judged s e room) (b .walk) ∙ simp (b .start ∙ start, b .end ∙ end, le-ltb room (4 * liveCount s e) enough) in
     p .is ∙ ap (outcomeOf k c m area s e (sortRows rows)) found
-    ∙ (λ i. closedOf k c m area s e (b .head i) (b .rows i) (frontOf (keptOf s e (b .segs))) (headOf (keptOf s e (b .segs))))
-    ∙ close-same s e some order above k c m area (z .scan .«end_of_e») (z .words) gs (b .segs) (b .differ)
+    ∙ (λ i. closedOf k c m area s e (b .from i) (b .head i) (b .rows i) (frontOf (keptOf s e (b .segs))) (headOf (keptOf s e (b .segs))))
+    ∙ close-same s e some order above k c m area (z .scan .«start_of_e») (z .scan .«end_of_e») (z .words) gs (b .segs) (b .differ)

@@ -30,15 +30,15 @@ keptIn s e gs = record {
   segs = keptOf s e gs ++ replicate (64 - length (keptOf s e gs)) noSegment;
 }
 
--- the log of the segments gs, the last of them closed at e with the padded end x
-abbrev pub closedView : (k c m s e x : ℕ) → List Segment → View
-closedView k c m s e x gs = record {
+-- the log of the segments gs, the last of them closed at e, whose header starts at `at` and whose padded end is x
+abbrev pub closedView : (k c m s e at x : ℕ) → List Segment → View
+closedView k c m s e at x gs = record {
   k = k;
   c = c;
   m = m;
   start = s;
   end = e;
-  segs = frontOf gs ++ (endedAt (headOf gs) e x ∷ []);
+  segs = frontOf gs ++ (endedAt (headOf gs) e at x ∷ []);
 }
 
 -- what closing asks of the kept segments gs: there is one, the last one's slot lies in the area, and the padded end x in the slot
@@ -49,7 +49,7 @@ pub record ClosePre (c s e n x : ℕ) (area : List ℕ) (gs : List Segment) : Ty
   pub slot : headOf gs .slot * c + c ≤ length area
   pub end : x ≤ c
 
--- what closing the kept segments gs at the padded end x of e ensures
-pub record CloseDid (k c m s e x : ℕ) (gs : List Segment) (area area′ : List ℕ) (r : Recovered) : Type 0 where
-  pub answer : r ≡ record { refusal = 0; rows = liveCount s e; log = logOf (closedView k c m s e x gs) }
+-- what closing the kept segments gs at e, from its start `at` to its padded end x, ensures
+pub record CloseDid (k c m s e at x : ℕ) (gs : List Segment) (area area′ : List ℕ) (r : Recovered) : Type 0 where
+  pub answer : r ≡ record { refusal = 0; rows = liveCount s e; log = logOf (closedView k c m s e at x gs) }
   pub bytes : area′ ≡ paddedTo c area (headOf gs) x

@@ -57,4 +57,5 @@ AcceptedStays =
     (k c m : ℕ) (area : List ℕ) (rows : List ImageRow) (s e room : ℕ) (z : Pen) (gs : List Segment) → walks k c m area rows s e ≡ true
     → WholeImages area c s e (sortRows rows) penOf z gs → z .scan .«found_s» ≡ true → z .scan .«found_e» ≡ true → 4 * liveCount s e ≤ room
     → recoveryOf k c m area rows s e room
-    ≡ closedOf k c m area s e (z .scan .«end_of_e») (z .words) (frontOf (keptOf s e gs)) (headOf (keptOf s e gs))
+    ≡ closedOf k c m area s e (z .scan .«start_of_e») (z .scan .«end_of_e») (z .words) (frontOf (keptOf s e gs))
+    (headOf (keptOf s e gs))

@@ -36,17 +36,17 @@ recovered a area words = done (record { log = a; area = area; words = words })
 
 -- ---- what an accepted scan leaves
 
--- the log with the head g after hs
-abbrev pub closedOf : (k c m : ℕ) → List ℕ → (s e x : ℕ) → List ℕ → List Segment → Segment → Recovery
-closedOf k c m area s e x words hs g =
-    recovered (record { k = k; c = c; m = m; start = s; end = e; segs = hs ++ (endedAt g e x ∷ []) }) (paddedTo c area g x) words
+-- the log with the head g after hs, closed at e, whose header starts at `at` and whose padded end is x
+abbrev pub closedOf : (k c m : ℕ) → List ℕ → (s e at x : ℕ) → List ℕ → List Segment → Segment → Recovery
+closedOf k c m area s e at x words hs g =
+    recovered (record { k = k; c = c; m = m; start = s; end = e; segs = hs ++ (endedAt g e at x ∷ []) }) (paddedTo c area g x) words
 
 -- a scan's outcome: its fault, or the kept segments, closed at e
 abbrev pub outcomeOf : (k c m : ℕ) → List ℕ → (s e : ℕ) → List ImageRow → Outcome Found → Recovery
 outcomeOf k c m area s e rows o =
     either refused
-    (λ a. closedOf k c m area s e (a .0 .«end_of_e») (rowsAll area c s e rows penOf) (frontOf (keptOf s e (a .1)))
-    (headOf (keptOf s e (a .1)))) o
+    (λ a. closedOf k c m area s e (a .0 .«start_of_e») (a .0 .«end_of_e») (rowsAll area c s e rows penOf)
+    (frontOf (keptOf s e (a .1))) (headOf (keptOf s e (a .1)))) o
 
 -- the scan of the sorted rows and what it leaves; `room` is the index's length in words
 abbrev pub scanned : (k c m : ℕ) → List ℕ → List ImageRow → (s e room : ℕ) → Recovery

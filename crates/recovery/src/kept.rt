@@ -82,17 +82,18 @@ pub(crate) fn close(
     found: Scanned,
 ) -> Recovered
     requires { ⌜ ClosePre c s e count (found .scan .«end_of_e») (now area) (keptOf s e (take count (found .segs))) ⌝ }
-    ensures { λ r. ⌜ CloseDid k c m s e (found .scan .«end_of_e») (keptOf s e (take count (found .segs)))
+    ensures { λ r. ⌜ CloseDid k c m s e (found .scan .«start_of_e») (found .scan .«end_of_e») (keptOf s e (take count (found .segs)))
         (now (area .entry)) (now (area .exit)) r ⌝ }
 {
     let seen = found.segs;
+    let start = found.scan.start_of_e;
     let end = found.scan.end_of_e;
     let kept = keep(s, e, seen, count);
     let at = kept.count - 1;
     let head = kept.segs[at];
     segment::truncate(area, c, head.slot, head.size, end);
     let mut segs = kept.segs;
-    segs[at] = segment::ended_at(head, e, end);
+    segs[at] = segment::ended_at(head, e, start, end);
     let log = Log {
         k,
         c,

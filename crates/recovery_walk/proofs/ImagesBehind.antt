@@ -28,7 +28,7 @@ use Rattle.recovery_walk.proofs.Rows.{rows-end, rows-scan}
 
 -- the segment of a row whose image is not looked at: no record was seen in it
 abbrev pub unread : ImageRow → Segment
-unread r = record { id = r .id; slot = r .slot; size = r .size; min = 0; max = 0 }
+unread r = record { id = r .id; slot = r .slot; size = r .size; min = 0; max = 0; «newest_at» = 0 }
 
 module _ (area : List ℕ) (c s e : ℕ) where
   -- ---- where the walk has stopped
@@ -49,11 +49,12 @@ module _ (area : List ℕ) (c s e : ℕ) where
     pub is : images area c s e rs w ≡ walked state (map unread rs)
     pub start : state .«found_s» ≡ w .«found_s»
     pub end : state .«found_e» ≡ w .«found_e»
+    pub from : state .«start_of_e» ≡ w .«start_of_e»
     pub head : state .«end_of_e» ≡ w .«end_of_e»
 
   pub images-behind : (rs : List ImageRow) (w : Scan) → goesOn w ≡ false → Behind rs w
   unfolding images
-  images-behind [] w h = record { state = w; is = refl; start = refl; end = refl; head = refl }
+  images-behind [] w h = record { state = w; is = refl; start = refl; end = refl; from = refl; head = refl }
   images-behind (r ∷ rs) w h =
       let on = images-behind rs (openedOf w (r .size)) (opened-goes w (r .size) ∙ h) in
       record {
@@ -62,6 +63,7 @@ module _ (area : List ℕ) (c s e : ℕ) where
             ∙ ap (behind (filledOf r (openedOf w (r .size)) ∷ [])) (on .is);
         start = on .start;
         end = on .end;
+        from = on .from;
         head = on .head;
       }
 

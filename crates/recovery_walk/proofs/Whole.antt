@@ -42,6 +42,7 @@ module _ (s e : ℕ) (some : 0 < e) (order : s ≤ e) where
     pub words : z .words ≡ v .words
     pub start : z .scan .«found_s» ≡ v .scan .«found_s»
     pub end : z .scan .«found_e» ≡ v .scan .«found_e»
+    pub from : z .scan .«start_of_e» ≡ v .scan .«start_of_e»
     pub head : z .scan .«end_of_e» ≡ v .scan .«end_of_e»
     pub last : e ≤ z .scan .last
     pub first : (v .scan .min ≡ 0 → ⊥) → z .scan .min ≡ v .scan .min
@@ -54,6 +55,7 @@ module _ (s e : ℕ) (some : 0 < e) (order : s ≤ e) where
         words = refl;
         start = refl;
         end = refl;
+        from = refl;
         head = refl;
         last = l;
         first = λ h. refl;
@@ -67,6 +69,7 @@ module _ (s e : ℕ) (some : 0 < e) (order : s ≤ e) where
         words = q .words ∙ p .words;
         start = q .start ∙ p .start;
         end = q .end ∙ p .end;
+        from = q .from ∙ p .from;
         head = q .head ∙ p .head;
         last = q .last;
         first = λ h. q .first (λ y. h (sym (p .first h) ∙ y)) ∙ p .first h;
@@ -98,6 +101,7 @@ module _ (s e : ℕ) (some : 0 < e) (order : s ≤ e) where
           words = ap (λ (l : List ℕ). v .words ++ l) none ∙ append-nil (v .words);
           start = ap (λ (x : Scan). x .«found_s») (g .to) ∙ stays (w .«found_s») (eqb id s) (ne-eqb id s (λ z. omega arith));
           end = ap (λ (x : Scan). x .«found_e») (g .to) ∙ stays (w .«found_e») (eqb id e) (ne-eqb id e (λ z. omega arith));
+          from = ap (λ (x : Scan). x .«start_of_e») (g .to) ∙ simp (ne-eqb id e (λ z. omega arith));
           head = ap (λ (x : Scan). x .«end_of_e») (g .to) ∙ simp (ne-eqb id e (λ z. omega arith));
           last = omega arith;
           first = λ h. least ∙ simp (ne-eqb (w .min) 0 h);
@@ -219,12 +223,13 @@ module _ (s e : ℕ) (some : 0 < e) (order : s ≤ e) where
       pub words : z .words ≡ v .words
       pub start : z .scan .«found_s» ≡ v .scan .«found_s»
       pub end : z .scan .«found_e» ≡ v .scan .«found_e»
+      pub from : z .scan .«start_of_e» ≡ v .scan .«start_of_e»
       pub head : z .scan .«end_of_e» ≡ v .scan .«end_of_e»
       pub blank : Every BlankSegment gs
 
     past-images : (rs : List ImageRow) (v z : Pen) (gs : List Segment) → e ≤ v .scan .last → WholeImages area c s e rs v z gs
         → PastAll v z gs
-    past-images [] v z gs l whole-none = record { words = refl; start = refl; end = refl; head = refl; blank = tt }
+    past-images [] v z gs l whole-none = record { words = refl; start = refl; end = refl; from = refl; head = refl; blank = tt }
     past-images (r ∷ rs) v z (g ∷ gs) l (whole-image {m = m} calm one on) =
         let from : Pen = penWith (v .words) (openedOf (v .scan) (r .size)) in
         let p = past-image (imageOf area c r) (r .slot) from m l one in
@@ -233,6 +238,7 @@ module _ (s e : ℕ) (some : 0 < e) (order : s ≤ e) where
           words = q .words ∙ p .words;
           start = q .start ∙ p .start;
           end = q .end ∙ p .end;
+          from = q .from ∙ p .from;
           head = q .head ∙ p .head;
           blank = (p .blank (inl (refl, refl)), q .blank);
         }
@@ -249,6 +255,7 @@ module _ (s e : ℕ) (some : 0 < e) (order : s ≤ e) where
       pub rows : rowsAll area c s e rs v ≡ z .words
       pub start : d .«found_s» ≡ z .scan .«found_s»
       pub end : d .«found_e» ≡ z .scan .«found_e»
+      pub from : d .«start_of_e» ≡ z .scan .«start_of_e»
       pub head : d .«end_of_e» ≡ z .scan .«end_of_e»
       pub differ : (gs ≡ segs) ⊎ Differ gs segs
 
@@ -283,7 +290,7 @@ module _ (s e : ℕ) (some : 0 < e) (order : s ≤ e) where
         → BesideAll rs v z gs
     unfolding images rowsAll
     beside-all [] v z gs g whole-none =
-        record { d = v .scan; segs = []; walk = refl; rows = refl; start = refl; end = refl; head = refl; differ = inl refl }
+        record { d = v .scan; segs = []; walk = refl; rows = refl; start = refl; end = refl; from = refl; head = refl; differ = inl refl }
     beside-all (r ∷ rs) v z (seg ∷ gs) g (whole-image {m = m} calm one on) =
         let img : List ℕ = imageOf area c r in
         let from : Pen = penWith (v .words) (openedOf (v .scan) (r .size)) in
@@ -302,6 +309,7 @@ module _ (s e : ℕ) (some : 0 < e) (order : s ≤ e) where
           rows = ap (rowsAll area c s e rs) (b .rows ∙ y .1) ∙ f .rows;
           start = f .start;
           end = f .end;
+          from = f .from;
           head = f .head;
           differ = differ-more (filledOf r (m .scan)) gs (f .segs) (f .differ);
         })
@@ -317,6 +325,7 @@ module _ (s e : ℕ) (some : 0 < e) (order : s ≤ e) where
               ∙ sym (p .words ∙ y .past .words);
           start = o .start ∙ sym (p .start ∙ y .past .start);
           end = o .end ∙ sym (p .end ∙ y .past .end);
+          from = o .from ∙ sym (p .from ∙ y .past .from);
           head = o .head ∙ sym (p .head ∙ y .past .head);
           differ = inr (record {
             front = [];

@@ -36,9 +36,9 @@ Found = Scan × List Segment
 abbrev pub walked : Scan → List Segment → Outcome Found
 walked w gs = done (w, gs)
 
--- a row's segment: "min and max are those seen"
+-- a row's segment: "min and max are those seen", and the newest record starts where the last one seen does
 abbrev pub filledOf : ImageRow → Scan → Segment
-filledOf r w = record { id = r .id; slot = r .slot; size = r .size; min = w .min; max = w .max }
+filledOf r w = record { id = r .id; slot = r .slot; size = r .size; min = w .min; max = w .max; «newest_at» = w .«newest_at» }
 
 -- a fault ends the walk; else it goes on from the state
 abbrev pub after : Walked → (Scan → Outcome Found) → Outcome Found

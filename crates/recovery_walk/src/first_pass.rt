@@ -24,6 +24,7 @@ fn filled(row: ImageRow, state: Scan) -> Segment
         size: row.size,
         min: state.min,
         max: state.max,
+        newest_at: state.newest_at,
     }
 }
 

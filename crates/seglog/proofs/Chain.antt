@@ -58,6 +58,7 @@ chain-passes k c (g ∷ gs) i a j b some low h =
           size = t .good .size;
           some-min = omega (arith, t .min);
           order = omega (arith, t .min, t .order);
+          newest = t .good .newest;
         })
 
     on : (gs : List Segment) → Chain (InSlot k c) (i + 1) (g .max + 1) gs j b → chainOf k c gs ≡ true → chainOf k c (g ∷ gs) ≡ true
@@ -66,6 +67,10 @@ chain-passes k c (g ∷ gs) i a j b some low h =
         let t = and-both (all (segOf k c) (x ∷ gs)) (linked goesOn (x ∷ gs)) q in
         let next = is-next g x (record { id = l .0 .id ∙ ap (λ (y : ℕ). y + 1) (sym (h .0 .id)); min = l .0 .min }) in
         both-and _ _ (both-and _ _ good (t .0)) (both-and _ _ next (t .1))
+
+-- a segment that passes lies in its slot
+in-slot : (k c : ℕ) (g : Segment) → SegmentGood k c g → InSlot k c g
+in-slot k c g s = record { slot = s .slot; some = s .some-size; size = s .size; newest = s .newest }
 
 -- segments that are a chain
 pub record Chained (k c : ℕ) (gs : List Segment) : Type 0 where
@@ -87,7 +92,7 @@ passes-chain k c (g ∷ gs) h =
     from gs (seg-is k c g (u .0)) (t .1) (λ q. passes-chain k c gs (both-and _ _ (u .1) q))
   where
     link : SegmentGood k c g → Link (InSlot k c) (g .id) (g .min) g
-    link s = record { id = refl; min = refl; order = s .order; good = record { slot = s .slot; some = s .some-size; size = s .size } }
+    link s = record { id = refl; min = refl; order = s .order; good = in-slot k c g s }
 
     from : (gs : List Segment) → SegmentGood k c g → linked goesOn (g ∷ gs) ≡ true → (linked goesOn gs ≡ true → Chained k c gs)
         → Chained k c (g ∷ gs)
@@ -159,7 +164,7 @@ chain-snoc k c hs g s = by hs (s .goes) (passes-chain k c hs (s .rest))
     more hs i a some low h =
         let u = s .good in
         chain-passes k c (hs ++ (g ∷ [])) i a (g .id + 1) (g .max + 1) some low
-        (chain-more (InSlot k c) hs g i a h (u .order) (record { slot = u .slot; some = u .some-size; size = u .size }))
+        (chain-more (InSlot k c) hs g i a h (u .order) (in-slot k c g u))
 
     by : (hs : List Segment) → Goes hs g → Chained k c hs → chainOf k c (hs ++ (g ∷ [])) ≡ true
     by [] goes r = more [] (g .id) (g .min) (s .good .some-id) (s .good .some-min) (refl, refl)
@@ -184,6 +189,7 @@ snoc-chain k c hs g h =
         size = e .good .size;
         some-min = omega (arith, r .low, chain-le (InSlot k c) hs (r .i) (r .a) (g .id) (g .min) (e .left));
         order = e .order;
+        newest = e .good .newest;
       };
       goes = λ some.
           let u = chain-ends (InSlot k c) hs (r .i) (r .a) (g .id) (g .min) some (e .left) in

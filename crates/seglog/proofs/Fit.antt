@@ -3,7 +3,7 @@
 use mathlib.Core.Path.{_≡_, refl, sym, ap, _∙_}
 use mathlib.Core.List.{List, _∷_}
 use mathlib.Core.Bool.{Bool, true, false, _&&_}
-use Prim.Native.Nat.{ℕ, _-_, _*_, _%_, _≤_, _<_}
+use Prim.Native.Nat.{ℕ, _+_, _-_, _*_, _%_, _≤_, _<_}
 use native.Mathlib.Nat.{mul-le-mul}
 use native.Mathlib.Omega.{arith}
 use lib.ListN.{length, getD, take, drop}
@@ -15,9 +15,10 @@ use Rattle.lists.proofs.Cases.{by-test}
 use Rattle.segment.specs.declared.Segment.{Segment}
 use Rattle.seglog.specs.declared.Log.{Log}
 use Rattle.seglog.specs.View.{View, logOf, viewOf, headOf, zerosOf, plainOf}
-use Rattle.seglog.specs.Chain.{segOf, goesOn, chainOf, endsOf, slotsApart}
+use Rattle.seglog.specs.Chain.{newestOf, segOf, goesOn, chainOf, endsOf, slotsApart}
 use Rattle.seglog.specs.Fit.{sizesOf, shapedOf, fitsOf, fittingOf}
 use Rattle.segment.specs.Segment.{noSegment, slotNumber}
+use Rattle.segment.specs.Chain.{NewestFits}
 use Rattle.seglog.specs.New.{roomyOf}
 use Rattle.seglog.specs.Shape.{SizesObey}
 use Rattle.lists.proofs.Bools.{both-ways, and-both, both-and, not-so, same-test}
@@ -83,6 +84,18 @@ is-roomy k c m n s e = both-and (sizesOf k c m) (eqb n (k * c)) (are-sizes k c m
 
 -- ---- a listed segment
 
+-- what the test of the newest record says
+pub newest-is : (at size : ℕ) → newestOf at size ≡ true → NewestFits at size
+unfolding newestOf
+newest-is at size h =
+    let t = and-both (eqb (at % 4096) 0) (leb (at + 12) size) h in
+    record { pages = eqb-true (at % 4096) 0 (t .0); header = leb-true (at + 12) size (t .1) }
+
+-- and the other way
+pub is-newest : (at size : ℕ) → NewestFits at size → newestOf at size ≡ true
+unfolding newestOf
+is-newest at size f = simp (eq-eqb (at % 4096) 0 (f .pages), le-leb (at + 12) size (f .header))
+
 -- what the test of one segment says
 pub record SegmentGood (k c : ℕ) (g : Segment) : Type 0 where
   pub some-id : 1 ≤ g .id
@@ -91,12 +104,15 @@ pub record SegmentGood (k c : ℕ) (g : Segment) : Type 0 where
   pub size : g .size ≤ c
   pub some-min : 1 ≤ g .min
   pub order : g .min ≤ g .max
+  pub newest : NewestFits (g .«newest_at») (g .size)
 
 pub seg-is : (k c : ℕ) (g : Segment) → segOf k c g ≡ true → SegmentGood k c g
 unfolding segOf
 seg-is k c g h =
+    let t6 = and-both (leb 1 (g .id) && ltb (g .slot) k && leb 1 (g .size) && leb (g .size) c && leb 1 (g .min) && leb (g .min) (g .max))
+    (newestOf (g .«newest_at») (g .size)) h in
     let t5 = and-both (leb 1 (g .id) && ltb (g .slot) k && leb 1 (g .size) && leb (g .size) c && leb 1 (g .min)) (leb (g .min)
-    (g .max)) h in
+    (g .max)) (t6 .0) in
     let t4 = and-both (leb 1 (g .id) && ltb (g .slot) k && leb 1 (g .size) && leb (g .size) c) (leb 1 (g .min)) (t5 .0) in
     let t3 = and-both (leb 1 (g .id) && ltb (g .slot) k && leb 1 (g .size)) (leb (g .size) c) (t4 .0) in
     let t2 = and-both (leb 1 (g .id) && ltb (g .slot) k) (leb 1 (g .size)) (t3 .0) in
@@ -108,6 +124,7 @@ seg-is k c g h =
       size = leb-true (g .size) c (t3 .1);
       some-min = leb-true 1 (g .min) (t4 .1);
       order = leb-true (g .min) (g .max) (t5 .1);
+      newest = newest-is (g .«newest_at») (g .size) (t6 .1);
     }
 
 -- and the other way
@@ -121,6 +138,7 @@ is-seg k c g s =
       le-leb (g .size) c (s .size),
       le-leb 1 (g .min) (s .some-min),
       le-leb (g .min) (g .max) (s .order),
+      is-newest (g .«newest_at») (g .size) (s .newest),
     )
 
 -- the slots of a chain are below K

@@ -90,6 +90,8 @@ module _ (l : Log) (long : length (l .segs) ≡ 64) where
           last-max = λ h. rw (last h) at (ends h .newest);
           start-from = λ h. rw (at 0 h) at (ends h .from);
           start-to = λ h. rw (at 0 h) at (ends h .to);
+          newest-pages = λ i h. good i h .newest .pages;
+          newest-fits = λ i h. good i h .newest .header;
           none-start = λ z. none z .0;
           none-end = λ z. none z .1;
           unused-zero = λ i h g.
@@ -121,6 +123,7 @@ module _ (l : Log) (long : length (l .segs) ≡ 64) where
           size = s .sizes-fit i h′;
           some-min = s .mins i h′;
           order = s .min-max i h′;
+          newest = record { pages = s .newest-pages i h′; header = s .newest-fits i h′ };
         }))
         (λ i h.
         let h′ : i + 1 < l .count = omega (arith, listed′) in

@@ -41,7 +41,8 @@ view-log a =
 -- an entry with zeros is the entry of no segment
 pub zero-entry : (g : Segment) → zeroOf g ≡ true → g ≡ noSegment
 zero-entry g h =
-    let a = and-both (eqb (g .id) 0 && eqb (g .slot) 0 && eqb (g .size) 0 && eqb (g .min) 0) (eqb (g .max) 0) h in
+    let z = and-both (eqb (g .id) 0 && eqb (g .slot) 0 && eqb (g .size) 0 && eqb (g .min) 0 && eqb (g .max) 0) (eqb (g .«newest_at») 0) h in
+    let a = and-both (eqb (g .id) 0 && eqb (g .slot) 0 && eqb (g .size) 0 && eqb (g .min) 0) (eqb (g .max) 0) (z .0) in
     let b = and-both (eqb (g .id) 0 && eqb (g .slot) 0 && eqb (g .size) 0) (eqb (g .min) 0) (a .0) in
     let c = and-both (eqb (g .id) 0 && eqb (g .slot) 0) (eqb (g .size) 0) (b .0) in
     let d = and-both (eqb (g .id) 0) (eqb (g .slot) 0) (c .0) in
@@ -51,6 +52,7 @@ zero-entry g h =
       size = eqb-true (g .size) 0 (c .1) i;
       min = eqb-true (g .min) 0 (b .1) i;
       max = eqb-true (g .max) 0 (a .1) i;
+      «newest_at» = eqb-true (g .«newest_at») 0 (z .1) i;
     }
 
 zeros-list : (gs : List Segment) → zerosOf gs ≡ true → gs ≡ replicate (length gs) noSegment

@@ -10,9 +10,15 @@ use Rattle.segment.specs.declared.Segment.{Segment}
 use Rattle.segment.specs.Segment.{slotNumber}
 use Rattle.seglog.specs.View.{headOf}
 
--- "segment ids are non-zero", "slots are below K", "sizes are 1..C", "each min is 1 or more and <= max"
+-- where the newest record starts: "this offset is a multiple of 4096 and its 12 header bytes fit below the size" (document 02, ask 8)
+unfoldable pub newestOf : (at size : ℕ) → Bool
+newestOf at size = eqb (at % 4096) 0 && leb (at + 12) size
+
+-- "segment ids are non-zero", "slots are below K", "sizes are 1..C", "each min is 1 or more and <= max"; and the newest record
 unfoldable pub segOf : ℕ → ℕ → Segment → Bool
-segOf k c g = leb 1 (g .id) && ltb (g .slot) k && leb 1 (g .size) && leb (g .size) c && leb 1 (g .min) && leb (g .min) (g .max)
+segOf k c g =
+    leb 1 (g .id) && ltb (g .slot) k && leb 1 (g .size) && leb (g .size) c && leb 1 (g .min) && leb (g .min) (g .max)
+    && newestOf (g .«newest_at») (g .size)
 
 -- "ids rise by 1", "the next min is max + 1": h goes on from g
 unfoldable pub goesOn : Segment → Segment → Bool

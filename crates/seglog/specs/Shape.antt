@@ -1,4 +1,4 @@
--- Document 01's list of what a well-shaped log is, a named field for each of its rules. proofs/Shape.antt shows that the tests of
+-- Document 01's list of what a well-shaped log is, with the two rules of document 02's ask 8: a named field for each rule. proofs/Shape.antt shows that the tests of
 -- Fit.antt decide it. Assumes nothing.
 use mathlib.Core.Path.{_≡_}
 use Prim.Native.Nat.{ℕ, _+_, _-_, _%_, _≤_, _<_}
@@ -39,4 +39,6 @@ pub record WellShaped (l : Log) : Type 0 where
   pub start-to : 0 < l .count → l .start ≤ entry l 0 .max
   pub none-start : l .count ≡ 0 → l .start ≡ 0
   pub none-end : l .count ≡ 0 → l .end ≡ 0
+  pub newest-pages : (i : ℕ) → i < l .count → entry l i .«newest_at» % 4096 ≡ 0
+  pub newest-fits : (i : ℕ) → i < l .count → entry l i .«newest_at» + 12 ≤ entry l i .size
   pub unused-zero : (i : ℕ) → l .count ≤ i → i < 64 → entry l i ≡ noSegment

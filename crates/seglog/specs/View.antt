@@ -52,7 +52,7 @@ frontOf gs = take (length gs - 1) gs
 
 -- every field of an entry is 0
 abbrev pub zeroOf : Segment → Bool
-zeroOf g = eqb (g .id) 0 && eqb (g .slot) 0 && eqb (g .size) 0 && eqb (g .min) 0 && eqb (g .max) 0
+zeroOf g = eqb (g .id) 0 && eqb (g .slot) 0 && eqb (g .size) 0 && eqb (g .min) 0 && eqb (g .max) 0 && eqb (g .«newest_at») 0
 
 -- every entry is zero
 unfoldable pub zerosOf : List Segment → Bool

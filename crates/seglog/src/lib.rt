@@ -7,13 +7,14 @@ ghost use lib.ListN.{length};
 ghost use lib.Dec.{eqb, leb};
 ghost use Rattle.lists.specs.Choice.{pick};
 ghost use Rattle.seglog.specs.View.{zeroOf, emptyOf, logOf};
-ghost use Rattle.seglog.specs.Chain.{segOf, goesOn};
+ghost use Rattle.seglog.specs.Chain.{newestOf, segOf, goesOn};
 ghost use Rattle.seglog.specs.Fit.{sizesOf, fittingOf};
 ghost use Rattle.seglog.specs.New.{roomyOf, newOf, rangeOf};
 use lists::at_most;
 use lists::below;
 use lists::same;
 use page::PAGE_SIZE;
+use record::HEADER_SIZE;
 use segment::Segment;
 use segment::no_segment;
 
@@ -75,7 +76,20 @@ fn is_zero(g: Segment) -> bool
     let size = same(g.size, 0);
     let min = same(g.min, 0);
     let max = same(g.max, 0);
-    id & slot & size & min & max
+    let newest = same(g.newest_at, 0);
+    id & slot & size & min & max & newest
+}
+
+// Whether a segment of `size` bytes may have its newest record at `at`; `at + 12`, which may not fit, is not formed.
+fn newest_good(at: u64, size: u64) -> bool
+    ensures { λ r. ⌜ r ≡ newestOf at size ⌝ }
+{
+    let header = HEADER_SIZE as u64;
+    if size < header {
+        return false;
+    }
+    let whole_pages = same(at % PAGE_SIZE, 0);
+    whole_pages & at_most(at, size - header)
 }
 
 // What is asked of a listed segment by itself.
@@ -88,7 +102,8 @@ fn segment_good(k: u64, c: u64, g: Segment) -> bool
     let size = at_most(g.size, c);
     let some_min = at_most(1, g.min);
     let order = at_most(g.min, g.max);
-    some_id & slot & some_size & size & some_min & order
+    let newest = newest_good(g.newest_at, g.size);
+    some_id & slot & some_size & size & some_min & order & newest
 }
 
 // Whether the segment h goes on from g.

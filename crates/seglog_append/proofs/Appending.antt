@@ -84,9 +84,9 @@ module _ (l : Log) (bytes n : ℕ) (long : length (l .segs) ≡ 64) where
       let t : Segment = targetOf v in
       let there = spot l bytes n long ok in
       let y : Segment = grownOf t (recordRoom n) (l .end + 1) in
-      let segs : set (l .segs) (length (beforeOf v)) (endedAt t (l .end + 1) size) ≡ entriesOf (beforeOf v ++ (y ∷ [])) =
-      there .stores (endedAt t (l .end + 1) size)
-      ∙ ap (λ (z : ℕ). entriesOf (beforeOf v ++ (endedAt t (l .end + 1) z ∷ []))) grown in
+      let segs : set (l .segs) (length (beforeOf v)) (endedAt t (l .end + 1) (t .size) size) ≡ entriesOf (beforeOf v ++ (y ∷ [])) =
+      there .stores (endedAt t (l .end + 1) (t .size) size)
+      ∙ ap (λ (z : ℕ). entriesOf (beforeOf v ++ (endedAt t (l .end + 1) (t .size) z ∷ []))) grown in
       let count : length (beforeOf v) + 1 ≡ length (beforeOf v ++ (y ∷ [])) = omega (arith, length-append (beforeOf v) (y ∷ [])) in
       let start : pick (eqb (l .count) 0) (l .end + 1) (l .start) ≡ startAfter v =
       ap (λ (z : ℕ). pick (eqb z 0) (l .end + 1) (l .start))

@@ -91,6 +91,7 @@ module _ (l : Log) (area p : List ℕ) (long : length (l .segs) ≡ 64) (small-i
             size = omega arith;
             some-min = omega arith;
             order = omega arith;
+            newest = record { pages = refl; header = omega (arith, room-ge (length p)) };
           };
           goes = goes;
         };
@@ -136,6 +137,7 @@ module _ (l : Log) (area p : List ℕ) (long : length (l .segs) ≡ 64) (small-i
             size = omega (arith, last .good .size);
             some-min = last .good .some-min;
             order = omega (arith, last .good .order, ends .newest);
+            newest = record { pages = ends .pages; header = omega (arith, room-ge (length p)) };
           };
           goes = λ h. record { id = last .goes h .id; min = last .goes h .min };
         };

@@ -248,10 +248,10 @@ module _ (l : Log) (bytes : ℕ) (long : length (l .segs) ≡ 64) (fits : fittin
   -- a new segment is chosen
   pub chosen-new : (g : Segment) (i next slot : ℕ) → opensOf v ≡ true → next ≡ nextId listing → (next ≡ 0 → ⊥) → slot ≡ lowestFree v
       → (slot ≡ l .k → ⊥) → i ≡ l .count
-      → g ≡ record { id = next; slot = slot; size = 0; min = l .end + 1; max = l .end + 1 } → Chosen l g i
+      → g ≡ record { id = next; slot = slot; size = 0; min = l .end + 1; max = l .end + 1; «newest_at» = 0 } → Chosen l g i
   chosen-new g i next slot o n nz f nf p e =
       record {
-        target = e ∙ (λ j. record { id = n j; slot = f j; size = 0; min = l .end + 1; max = l .end + 1 }) ∙ simp o;
+        target = e ∙ (λ j. record { id = n j; slot = f j; size = 0; min = l .end + 1; max = l .end + 1; «newest_at» = 0 }) ∙ simp o;
         index = simp o (p ∙ sym listed);
         id-good = simp (o, ne-eqb (nextId listing) 0 (λ z. nz (n ∙ z)));
         slot-free = simp (o, ne-eqb (lowestFree v) (l .k) (λ z. nf (f ∙ z)));

@@ -17,9 +17,9 @@ use Rattle.seglog_append.specs.declared.Appended.{Appended}
 use Rattle.seglog_append.specs.declared.Place.{Place}
 use Rattle.seglog_append.specs.Deciding.{targetOf, beforeOf, decideOf, decideLog}
 
--- g with one record more, which takes n bytes
+-- g with one record more, behind its bytes, which takes n bytes
 abbrev pub grownOf : Segment → ℕ → ℕ → Segment
-grownOf g n id = endedAt g id (g .size + n)
+grownOf g n id = endedAt g id (g .size) (g .size + n)
 
 -- "A first append sets both ends of the range"
 abbrev pub startAfter : View → ℕ
@@ -92,7 +92,7 @@ grownAnswer l s size = record {
     start = pick (eqb (l .count) 0) (l .end + 1) (l .start);
     end = l .end + 1;
     count = s .at + 1;
-    segs = set (l .segs) (s .at) (endedAt (s .target) (l .end + 1) size);
+    segs = set (l .segs) (s .at) (endedAt (s .target) (l .end + 1) (s .target .size) size);
   };
 }
 

@@ -37,7 +37,7 @@ nextId gs = pick (eqb (length gs) 0) 1 ((headOf gs .id + 1) % 2 ^ 32)
 
 -- a new segment, before its first record
 abbrev pub freshOf : View → Segment
-freshOf a = record { id = nextId (a .segs); slot = lowestFree a; size = 0; min = a .end + 1; max = a .end + 1 }
+freshOf a = record { id = nextId (a .segs); slot = lowestFree a; size = 0; min = a .end + 1; max = a .end + 1; «newest_at» = 0 }
 
 -- the segment that the record goes to
 abbrev pub targetOf : View → Segment

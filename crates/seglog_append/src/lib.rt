@@ -79,7 +79,7 @@ fn lowest_free(log: Log) -> u32
 
 // A new segment, before its first record.
 fn new_segment(id: u32, slot: u32, first: u64) -> Segment
-    ensures { λ r. ⌜ r ≡ record { id = id; slot = slot; size = 0; min = first; max = first } ⌝ }
+    ensures { λ r. ⌜ r ≡ record { id = id; slot = slot; size = 0; min = first; max = first; «newest_at» = 0 } ⌝ }
 {
     Segment {
         id,
@@ -87,6 +87,7 @@ fn new_segment(id: u32, slot: u32, first: u64) -> Segment
         size: 0,
         min: first,
         max: first,
+        newest_at: 0,
     }
 }
 
@@ -134,7 +135,7 @@ fn start_after(count: usize, start: u64, id: u64) -> u64
     start
 }
 
-// The answer with a record at its place, where the target is `size` bytes long then.
+// The answer with a record at its place, behind the target's bytes, where the target is `size` bytes long then.
 fn grown(mut log: Log, place: Place, size: u64) -> Appended
     requires { ⌜ GrownPre log place ⌝ }
     ensures { λ r. ⌜ r ≡ grownAnswer log place size ⌝ }
@@ -145,7 +146,7 @@ fn grown(mut log: Log, place: Place, size: u64) -> Appended
     log.start = start_after(log.count, log.start, id);
     log.end = id;
     log.count = at + 1;
-    log.segs[at] = segment::ended_at(target, id, size);
+    log.segs[at] = segment::ended_at(target, id, target.size, size);
     Appended {
         refusal: 0,
         id,

@@ -16,7 +16,7 @@ use Rattle.seglog.specs.Chain.{chainOf, slotsApart}
 use Rattle.segment.specs.Segment.{noSegment, endedAt, slotNumber}
 use Rattle.lists.proofs.Bools.{and-both}
 use Rattle.lists.specs.Distinct.{fresh, distinct}
-use Rattle.segment.specs.Chain.{Chain, InSlot}
+use Rattle.segment.specs.Chain.{Chain, NewestFits, InSlot}
 use Rattle.segment.proofs.Chain.{chain-first}
 use Rattle.seglog.proofs.Chain.{EndsGood, passes-chain, chain-passes, chain-ends, chain-snoc, snoc-chain}
 use Rattle.seglog_prune.specs.Drop.{dropOld, keepAt, dropNew}
@@ -130,35 +130,36 @@ old-fewer n (g ∷ h ∷ gs) =
 
 -- ---- the last segment changed
 
--- a chain whose last segment has another size and max
-pub chain-last : (k c : ℕ) (hs : List Segment) (g : Segment) (n x : ℕ) → chainOf k c (hs ++ (g ∷ [])) ≡ true → 1 ≤ x → x ≤ c → g .min ≤ n
-    → chainOf k c (hs ++ (endedAt g n x ∷ [])) ≡ true
-chain-last k c hs g n x h low high order =
+-- a chain whose last segment ends with another record
+pub chain-last : (k c : ℕ) (hs : List Segment) (g : Segment) (n at x : ℕ) → chainOf k c (hs ++ (g ∷ [])) ≡ true → NewestFits at x → x ≤ c
+    → g .min ≤ n → chainOf k c (hs ++ (endedAt g n at x ∷ [])) ≡ true
+chain-last k c hs g n at x h newest high order =
     let t = snoc-chain k c hs g h in
-    chain-snoc k c hs (endedAt g n x)
+    chain-snoc k c hs (endedAt g n at x)
     (record {
       rest = t .rest;
       good = record {
         some-id = t .good .some-id;
         slot = t .good .slot;
-        some-size = low;
+        some-size = omega (arith, newest .header);
         size = high;
         some-min = t .good .some-min;
         order = order;
+        newest = newest;
       };
       goes = λ some. record { id = t .goes some .id; min = t .goes some .min };
     })
 
 -- the first segment's range, where the last one is changed
-pub first-from : (hs : List Segment) (g : Segment) (n x : ℕ)
-    → getD (hs ++ (endedAt g n x ∷ [])) 0 noSegment .min ≡ getD (hs ++ (g ∷ [])) 0 noSegment .min
-first-from [] g n x = refl
-first-from (h ∷ hs) g n x = refl
+pub first-from : (hs : List Segment) (g : Segment) (n at x : ℕ)
+    → getD (hs ++ (endedAt g n at x ∷ [])) 0 noSegment .min ≡ getD (hs ++ (g ∷ [])) 0 noSegment .min
+first-from [] g n at x = refl
+first-from (h ∷ hs) g n at x = refl
 
-pub first-to : (hs : List Segment) (g : Segment) (s n x : ℕ) → s ≤ n → s ≤ getD (hs ++ (g ∷ [])) 0 noSegment .max
-    → s ≤ getD (hs ++ (endedAt g n x ∷ [])) 0 noSegment .max
-first-to [] g s n x low h = low
-first-to (y ∷ hs) g s n x low h = h
+pub first-to : (hs : List Segment) (g : Segment) (s n at x : ℕ) → s ≤ n → s ≤ getD (hs ++ (g ∷ [])) 0 noSegment .max
+    → s ≤ getD (hs ++ (endedAt g n at x ∷ [])) 0 noSegment .max
+first-to [] g s n at x low h = low
+first-to (y ∷ hs) g s n at x low h = h
 
 -- ---- prune recent
 

@@ -2,8 +2,10 @@ pub mod Decide
 pub mod Drop
 pub mod DropKept
 pub mod Cut
+pub mod CutNewest
 pub mod PruneInside
 pub mod Prune
 pub mod PruneShape
 pub mod PruneFrame
+pub mod PruneDepend
 pub mod Unique

@@ -34,7 +34,8 @@ use Rattle.seglog_prune.specs.declared.Early.the-variants.{Onward}
 use Rattle.segment.specs.Segment.{imageIn, endedAt, paddedTo}
 use Rattle.seglog_prune.specs.Decide.{earlyOf}
 use Rattle.seglog_prune.specs.Drop.{dropOld, dropNew}
-use Rattle.seglog_prune.specs.Cut.{lost, findCut}
+use Rattle.seglog_prune.specs.declared.Newest.{Newest}
+use Rattle.seglog_prune.specs.Cut.{lost, cutIn}
 use Rattle.seglog_prune.specs.Prune.{
   pruned,
   outcomeOf,
@@ -146,35 +147,35 @@ module _ (l : Log) (area : List ℕ) (n left : ℕ) (staying : Staying l area n 
   head-inside = subst (λ (g : Segment). g .slot * l .c + l .c ≤ length area) head-is (slot-inside l area n range)
 
   recent-is : recentLog l area n
-      ≡ cutOff (viewOf l) area n (take (left - 1) (l .segs)) head (findCut (imageIn area (l .c) head) n 0)
+      ≡ cutOff (viewOf l) area n (take (left - 1) (l .segs)) head (cutIn head (imageIn area (l .c) head) n)
   unfolding recentLog pruneRecentOf
   recent-is =
       ap (outcomeOf (viewOf l) area _) (sym (staying .onward))
       ∙ ap (λ (g : Segment). cutOff (viewOf l) area n (frontOf (dropNew n (take (l .count) (l .segs)))) g
-      (findCut (imageIn area (l .c) g) n 0)) head-is
-      ∙ ap (λ (hs : List Segment). cutOff (viewOf l) area n hs head (findCut (imageIn area (l .c) head) n 0)) front-is
+      (cutIn g (imageIn area (l .c) g) n)) head-is
+      ∙ ap (λ (hs : List Segment). cutOff (viewOf l) area n hs head (cutIn head (imageIn area (l .c) head) n)) front-is
 
   -- refusal 10
-  pub recent-refuses-10 : findCut (imageIn area (l .c) head) n 0 ≡ lost → recentLog l area n ≡ refused 10
+  pub recent-refuses-10 : cutIn head (imageIn area (l .c) head) n ≡ lost → recentLog l area n ≡ refused 10
   recent-refuses-10 e = recent-is ∙ ap (cutOff (viewOf l) area n (take (left - 1) (l .segs)) head) e
 
-  -- the cut is found at x: the answer and the area
-  pub recent-answer : (x : ℕ) → findCut (imageIn area (l .c) head) n 0 ≡ done x
+  -- the cut x is found: the answer and the area
+  pub recent-answer : (x : Newest) → cutIn head (imageIn area (l .c) head) n ≡ done x
       → accepted (endedLog l left n x) ≡ pruneAnswer l (recentLog l area n)
   recent-answer x e = sym (ap (pruneAnswer l) (recent-is ∙ ap (cutOff (viewOf l) area n (take (left - 1) (l .segs)) head) e))
 
-  pub recent-area : (x : ℕ) → findCut (imageIn area (l .c) head) n 0 ≡ done x
-      → paddedTo (l .c) area head x ≡ pruneArea area (recentLog l area n)
+  pub recent-area : (x : Newest) → cutIn head (imageIn area (l .c) head) n ≡ done x
+      → paddedTo (l .c) area head (x .end) ≡ pruneArea area (recentLog l area n)
   recent-area x e = sym (ap (pruneArea area) (recent-is ∙ ap (cutOff (viewOf l) area n (take (left - 1) (l .segs)) head) e))
 
 -- the log as the code makes it: the first entries with the last one changed
-pub ended-is : (l : Log) (left n x : ℕ) (all segs : List Segment) → length (l .segs) ≡ 64 → 0 < left → left ≤ 64
-    → all ≡ take left (l .segs) ++ replicate (64 - left) noSegment → segs ≡ set all (left - 1) (endedAt (getD all (left - 1) noSegment) n x)
+pub ended-is : (l : Log) (left n : ℕ) (x : Newest) (all segs : List Segment) → length (l .segs) ≡ 64 → 0 < left → left ≤ 64
+    → all ≡ take left (l .segs) ++ replicate (64 - left) noSegment → segs ≡ set all (left - 1) (endedAt (getD all (left - 1) noSegment) n (x .at) (x .end))
     → _≡_ {A = Log} (record { k = l .k; c = l .c; m = l .m; start = l .start; end = n; count = left; segs = segs }) (endedLog l left n x)
 ended-is l left n x all segs long some within e f =
     let hs : List Segment = take (left - 1) (l .segs) in
     let g : Segment = getD (l .segs) (left - 1) noSegment in
-    let g′ : Segment = endedAt g n x in
+    let g′ : Segment = endedAt g n (x .at) (x .end) in
     let back : left ≡ suc (left - 1) = omega arith in
     let ends : take left (l .segs) ≡ hs ++ (g ∷ []) =
     ap (λ (k : ℕ). take k (l .segs)) back ∙ take-suc (l .segs) (left - 1) noSegment (omega arith) in
@@ -187,7 +188,7 @@ ended-is l left n x all segs long some within e f =
     ∙ List·getD-append (take left (l .segs)) (replicate (64 - left) noSegment) noSegment (left - 1) (omega arith)
     ∙ getD-take left (l .segs) (left - 1) noSegment (omega arith) in
     let same : segs ≡ entriesOf (hs ++ (g′ ∷ [])) =
-    f ∙ ap (λ (h : Segment). set all (left - 1) (endedAt h n x)) here ∙ ap (λ (y : List Segment). set y (left - 1) g′) entries
+    f ∙ ap (λ (h : Segment). set all (left - 1) (endedAt h n (x .at) (x .end))) here ∙ ap (λ (y : List Segment). set y (left - 1) g′) entries
     ∙ ap (λ (k : ℕ). set (entriesOf (hs ++ (g ∷ []))) k g′) (sym front) ∙ set-head hs g g′ in
     let count : left ≡ length (hs ++ (g′ ∷ [])) = sym (length-append hs (g′ ∷ []) ∙ omega arith) in
     λ i. record { k = l .k; c = l .c; m = l .m; start = l .start; end = n; count = count i; segs = same i }

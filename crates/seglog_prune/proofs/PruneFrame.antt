@@ -13,18 +13,9 @@ use Rattle.seglog.specs.declared.Log.{Log}
 use Rattle.seglog.specs.View.{viewOf}
 use Rattle.seglog.specs.Fit.{fittingOf}
 use Rattle.segment.specs.Segment.{imageIn, paddedTo}
-use Rattle.seglog_prune.specs.Cut.{findCut}
-use Rattle.seglog_prune.specs.Prune.{
-  Pruned,
-  pruneOf,
-  pruneOldestOf,
-  cutOff,
-  pruneRecentOf,
-  oldestLog,
-  recentLog,
-  pruneAnswer,
-  pruneArea,
-}
+use Rattle.seglog_prune.specs.declared.Newest.{Newest}
+use Rattle.seglog_prune.specs.Cut.{cutIn}
+use Rattle.seglog_prune.specs.Prune.{Pruned, pruneOf, pruneOldestOf, cutOff, pruneRecentOf, oldestLog, recentLog, pruneArea}
 use Rattle.seglog_prune.specs.Promised.{RefusalKeeps, OldestBytes, RecentOther}
 use Rattle.seglog_prune.proofs.Decide.{Inner, prune-ways}
 use Rattle.seglog_prune.proofs.PruneInside.{cutSegment, frontKept, in-range, cut-good}
@@ -53,13 +44,14 @@ unfolding recentLog pruneRecentOf
 recent-other l area n j long apart =
     prune-area (λ (x : List ℕ). slotOf (l .c) j x ≡ slotOf (l .c) j area) l area n _ refl (λ i. any i _ refl)
   where
-    any : (i : Inner (viewOf l) (fittingOf l (length area)) n) (r : Outcome ℕ) → findCut (imageIn area (l .c) (cutSegment l n)) n 0 ≡ r
+    any : (i : Inner (viewOf l) (fittingOf l (length area)) n) (r : Outcome Newest)
+        → cutIn (cutSegment l n) (imageIn area (l .c) (cutSegment l n)) n ≡ r
         → slotOf (l .c) j (pruneArea area (cutOff (viewOf l) area n (frontKept l n) (cutSegment l n) r)) ≡ slotOf (l .c) j area
     any i (refused m) e = refl
     any i (done x) e =
         let head : Segment = cutSegment l n in
         let r = in-range l area n long i in
-        splice-slot (l .c) (head .slot) j (head .slot * l .c + head .size) (replicate (x - head .size) 0) area (omega arith)
+        splice-slot (l .c) (head .slot) j (head .slot * l .c + head .size) (replicate (x .end - head .size) 0) area (omega arith)
         (rw length-replicate (omega (arith, r .good .size, cut-good l area n r x e .high))) apart
 
 -- and in the slot itself every byte in front of the segment's old size: only missing padding is written
@@ -70,25 +62,26 @@ unfolding recentLog pruneRecentOf
 recent-front l area n a m long front =
     prune-area (λ (x : List ℕ). part a m x ≡ part a m area) l area n _ refl (λ i. any i _ refl)
   where
-    any : (i : Inner (viewOf l) (fittingOf l (length area)) n) (r : Outcome ℕ) → findCut (imageIn area (l .c) (cutSegment l n)) n 0 ≡ r
+    any : (i : Inner (viewOf l) (fittingOf l (length area)) n) (r : Outcome Newest)
+        → cutIn (cutSegment l n) (imageIn area (l .c) (cutSegment l n)) n ≡ r
         → part a m (pruneArea area (cutOff (viewOf l) area n (frontKept l n) (cutSegment l n) r)) ≡ part a m area
     any i (refused m) e = refl
     any i (done x) e =
         let head : Segment = cutSegment l n in
-        splice-before (head .slot * l .c + head .size) (replicate (x - head .size) 0) area a m front
+        splice-before (head .slot * l .c + head .size) (replicate (x .end - head .size) 0) area a m front
 
 -- the area keeps its length
 pub recent-length : (l : Log) (area : List ℕ) (n : ℕ) → length (l .segs) ≡ 64 → length (pruneArea area (recentLog l area n)) ≡ length area
 unfolding recentLog pruneRecentOf
 recent-length l area n long =
     prune-area (λ (x : List ℕ). length x ≡ length area) l area n _ refl
-    (λ i. any i (findCut (imageIn area (l .c) (cutSegment l n)) n 0))
+    (λ i. any i (cutIn (cutSegment l n) (imageIn area (l .c) (cutSegment l n)) n))
   where
-    any : (i : Inner (viewOf l) (fittingOf l (length area)) n) (r : Outcome ℕ)
+    any : (i : Inner (viewOf l) (fittingOf l (length area)) n) (r : Outcome Newest)
         → length (pruneArea area (cutOff (viewOf l) area n (frontKept l n) (cutSegment l n) r)) ≡ length area
     any i (refused m) = refl
     any i (done x) =
-        let head : Segment = cutSegment l n in splice-length (head .slot * l .c + head .size) (replicate (x - head .size) 0) area
+        let head : Segment = cutSegment l n in splice-length (head .slot * l .c + head .size) (replicate (x .end - head .size) 0) area
 
 -- where no padding is missing, nothing is written
 pub padded-none : (c : ℕ) (area : List ℕ) (g : Segment) (x : ℕ) → x ≤ g .size → paddedTo c area g x ≡ area

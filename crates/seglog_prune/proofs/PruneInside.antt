@@ -1,14 +1,12 @@
 -- What is known behind the shared tests: of the listed segments, of those that prune recent keeps, and of a cut that was found.
 -- Assumes nothing.
-use mathlib.Core.Path.{_≡_, sym, ap, _∙_, subst}
+use mathlib.Core.Path.{_≡_, sym, ap, _∙_}
 use mathlib.Core.Bool.{true}
 use native.Mathlib.Nat.{mul-le-mul-right, suc-mul}
 use mathlib.Core.List.{List, [], _∷_, _++_}
 use Prim.Native.Nat.{ℕ, suc, _+_, _*_, _%_, _≤_, _<_}
 use native.Mathlib.Omega.{arith}
 use lib.ListN.{length, take, drop, length-take}
-use lib.Dec.{lit<}
-use Rattle.page.proofs.Page.{pad-multiple, pad-ge}
 use Rattle.segment.specs.declared.Segment.{Segment}
 use Rattle.seglog.specs.declared.Log.{Log}
 use Rattle.seglog.specs.View.{viewOf, headOf, frontOf}
@@ -19,9 +17,11 @@ use Rattle.seglog.proofs.Fit.{SegmentGood, Fitting, fitting-is}
 use Rattle.lists.specs.Outcome.{done}
 use Rattle.lists.proofs.Distinct.{distinct-front}
 use Rattle.seglog_prune.specs.Drop.{dropNew}
-use Rattle.seglog_prune.specs.Cut.{findCut}
+use Rattle.seglog_prune.specs.declared.Newest.{Newest}
+use Rattle.seglog_prune.specs.Cut.{cutIn}
 use Rattle.segment.specs.Segment.{imageIn, slotNumber}
-use Rattle.seglog_prune.proofs.Cut.{Ends, Found, cut-found, cut-within}
+use Rattle.segment.specs.Chain.{NewestFits}
+use Rattle.seglog_prune.proofs.Cut.{cut-within, cut-pages, cut-newest}
 use Rattle.seglog_prune.proofs.Decide.{Inner}
 use Rattle.seglog.proofs.Chain.{EndsGood, ends-are, chain-parts, snoc-chain}
 use Rattle.seglog_prune.proofs.DropKept.{new-front, some-stays}
@@ -87,17 +87,18 @@ module _ (l : Log) (area : List ℕ) (n : ℕ) (r : InRange l area n) where
   pub image-fits : length image ≤ l .c
   image-fits = omega (arith, length-take (cutSegment l n .size) (drop (cutSegment l n .slot * l .c) area), r .good .size)
 
-  -- a cut that was found: whole pages, inside the slot
-  pub record CutGood (x : ℕ) : Type 0 where
-    pub low : 1 ≤ x
-    pub high : x ≤ l .c
-    pub pages : x % 4096 ≡ 0
+  -- a cut that was found: whole pages, inside the slot, with its header in front of its end
+  pub record CutGood (x : Newest) : Type 0 where
+    pub high : x .end ≤ l .c
+    pub pages : x .end % 4096 ≡ 0
+    pub newest : NewestFits (x .at) (x .end)
 
-  pub cut-good : (x : ℕ) → findCut image n 0 ≡ done x → CutGood x
+  pub cut-good : (x : Newest) → cutIn (cutSegment l n) image n ≡ done x → CutGood x
   cut-good x e =
-      let found : Ends image x = subst (Found image) e (cut-found image n 0) in
+      let g : Segment = cutSegment l n in
+      let page = r .good .newest .pages in
       record {
-        low = omega (arith, found .is, found .some, pad-ge 4096 (found .end) (lit< tt));
-        high = cut-within image n x (l .c) e image-fits (r .fit .sizes .whole-pages);
-        pages = ap (λ (k : ℕ). k % 4096) (found .is) ∙ pad-multiple 4096 (found .end) (lit< tt);
+        high = cut-within g image n x page e (l .c) image-fits (r .fit .sizes .whole-pages);
+        pages = cut-pages g image n x page e;
+        newest = cut-newest g image n x page e;
       }

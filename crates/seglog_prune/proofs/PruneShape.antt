@@ -24,7 +24,8 @@ use Rattle.seglog.proofs.Fit.{fitting-is, view-shaped, view-fits}
 use Rattle.segment.specs.Segment.{imageIn, endedAt, paddedTo}
 use Rattle.seglog.proofs.Chain.{EndsGood, are-ends}
 use Rattle.seglog_prune.specs.Drop.{dropOld}
-use Rattle.seglog_prune.specs.Cut.{findCut}
+use Rattle.seglog_prune.specs.declared.Newest.{Newest}
+use Rattle.seglog_prune.specs.Cut.{cutIn}
 use Rattle.seglog_prune.specs.Prune.{
   Pruned,
   pruned,
@@ -94,16 +95,19 @@ oldest-shaped l area n a after long e = subst Good e (oldest-good l area n long)
 
 -- ---- prune recent
 
-module _ (l : Log) (area : List ℕ) (n : ℕ) (i : Inner (viewOf l) (fittingOf l (length area)) n) (r : InRange l area n) (x : ℕ)
-    (e : findCut (imageIn area (l .c) (cutSegment l n)) n 0 ≡ done x) where
+module _ (l : Log) (area : List ℕ) (n : ℕ) (i : Inner (viewOf l) (fittingOf l (length area)) n) (r : InRange l area n) (x : Newest)
+    (e : cutIn (cutSegment l n) (imageIn area (l .c) (cutSegment l n)) n ≡ done x) where
   abbrev g : Segment
   g = cutSegment l n
 
   abbrev hs : List Segment
   hs = frontKept l n
 
+  abbrev ended : Segment
+  ended = endedAt g n (x .at) (x .end)
+
   abbrev after : List Segment
-  after = hs ++ (endedAt g n x ∷ [])
+  after = hs ++ (ended ∷ [])
 
   good : CutGood l area n r x
   good = cut-good l area n r x e
@@ -118,7 +122,7 @@ module _ (l : Log) (area : List ℕ) (n : ℕ) (i : Inner (viewOf l) (fittingOf 
   after-few =
       omega (
         arith,
-        length-append hs (endedAt g n x ∷ []),
+        length-append hs (ended ∷ []),
         length-append hs (g ∷ []),
         ap length (r .kept-is),
         length-take (length (keptOf l n)) (viewOf l .segs),
@@ -128,10 +132,10 @@ module _ (l : Log) (area : List ℕ) (n : ℕ) (i : Inner (viewOf l) (fittingOf 
 
   after-ends : EndsGood (l .start) n after
   after-ends =
-      let last : headOf after ≡ endedAt g n x = head-snoc hs (endedAt g n x) in
+      let last : headOf after ≡ ended = head-snoc hs ended in
       record {
-        from = omega (arith, first-from hs g n x, ap (λ (y : Segment). y .min) first-is, r .ends .from);
-        to = first-to hs g (l .start) n x (i .lower) (omega (arith, ap (λ (y : Segment). y .max) first-is, r .ends .to));
+        from = omega (arith, first-from hs g n (x .at) (x .end), ap (λ (y : Segment). y .min) first-is, r .ends .from);
+        to = first-to hs g (l .start) n (x .at) (x .end) (i .lower) (omega (arith, ap (λ (y : Segment). y .max) first-is, r .ends .to));
         pages = ap (λ (y : Segment). y .size % 4096) last ∙ good .pages;
         newest = ap (λ (y : Segment). y .max) last;
       }
@@ -139,14 +143,14 @@ module _ (l : Log) (area : List ℕ) (n : ℕ) (i : Inner (viewOf l) (fittingOf 
   recent-fits : Good (cutOff (viewOf l) area n hs g (done x))
   recent-fits =
       let apart = snoc-distinct slotNumber hs g (r .apart) in
-      passed-fits (endedView (viewOf l) n hs g x) (length (paddedTo (l .c) area g x))
-      (r .fit .sizes) after-few (splice-length (g .slot * l .c + g .size) (replicate (x - g .size) 0) area ∙ r .fit .area)
-      (chain-last (l .k) (l .c) hs g n x (r .chain) (good .low) (good .high) (new-low n (viewOf l .segs) (r .stays)))
-      (distinct-more slotNumber hs (endedAt g n x) (apart .0) (apart .1))
-      (are-ends (l .start) n after (omega (arith, length-append hs (endedAt g n x ∷ []))) after-ends)
+      passed-fits (endedView (viewOf l) n hs g x) (length (paddedTo (l .c) area g (x .end)))
+      (r .fit .sizes) after-few (splice-length (g .slot * l .c + g .size) (replicate (x .end - g .size) 0) area ∙ r .fit .area)
+      (chain-last (l .k) (l .c) hs g n (x .at) (x .end) (r .chain) (good .newest) (good .high) (new-low n (viewOf l .segs) (r .stays)))
+      (distinct-more slotNumber hs ended (apart .0) (apart .1))
+      (are-ends (l .start) n after (omega (arith, length-append hs (ended ∷ []))) after-ends)
 
-recent-any : (l : Log) (area : List ℕ) (n : ℕ) → Inner (viewOf l) (fittingOf l (length area)) n → InRange l area n → (o : Outcome ℕ)
-    → findCut (imageIn area (l .c) (cutSegment l n)) n 0 ≡ o → Good (cutOff (viewOf l) area n (frontKept l n) (cutSegment l n) o)
+recent-any : (l : Log) (area : List ℕ) (n : ℕ) → Inner (viewOf l) (fittingOf l (length area)) n → InRange l area n → (o : Outcome Newest)
+    → cutIn (cutSegment l n) (imageIn area (l .c) (cutSegment l n)) n ≡ o → Good (cutOff (viewOf l) area n (frontKept l n) (cutSegment l n) o)
 recent-any l area n i r (refused m) e = tt
 recent-any l area n i r (done x) e = recent-fits l area n i r x e
 

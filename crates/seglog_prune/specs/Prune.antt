@@ -15,7 +15,8 @@ use Rattle.seglog_prune.specs.declared.Early.{Early}
 use Rattle.seglog_prune.specs.declared.Early.the-variants.{Refused, Empty, Same, Onward}
 use Rattle.seglog_prune.specs.Decide.{earlyOf}
 use Rattle.seglog_prune.specs.Drop.{dropOld, dropNew}
-use Rattle.seglog_prune.specs.Cut.{findCut}
+use Rattle.seglog_prune.specs.declared.Newest.{Newest}
+use Rattle.seglog_prune.specs.Cut.{cutIn}
 
 -- what an accepted prune leaves: the log and the area
 pub record Pruned : Type 0 where
@@ -49,20 +50,27 @@ pruneOldestOf a fits area n = pruneOf a fits area n (pruned (startedAt a n (drop
 
 -- ---- prune recent
 
--- the log that ends with the record n in g, at x, after hs
-abbrev pub endedView : View → ℕ → List Segment → Segment → ℕ → View
-endedView a n hs g x = record { k = a .k; c = a .c; m = a .m; start = a .start; end = n; segs = hs ++ (endedAt g n x ∷ []) }
+-- the log that ends with the record n in g, which is x, after hs
+abbrev pub endedView : View → ℕ → List Segment → Segment → Newest → View
+endedView a n hs g x = record {
+  k = a .k;
+  c = a .c;
+  m = a .m;
+  start = a .start;
+  end = n;
+  segs = hs ++ (endedAt g n (x .at) (x .end) ∷ []);
+}
 
 -- "sets its size to the padded end of it": the head g, after hs, cut there; 10 where the cut is not found
-abbrev pub cutOff : View → List ℕ → ℕ → List Segment → Segment → Outcome ℕ → Outcome Pruned
+abbrev pub cutOff : View → List ℕ → ℕ → List Segment → Segment → Outcome Newest → Outcome Pruned
 cutOff a area n hs g (refused m) = refused m
-cutOff a area n hs g (done x) = pruned (endedView a n hs g x) (paddedTo (a .c) area g x)
+cutOff a area n hs g (done x) = pruned (endedView a n hs g x) (paddedTo (a .c) area g (x .end))
 
--- the last of the kept segments is the head, and is searched from its start
+-- the last of the kept segments is the head, and is cut
 unfoldable pub pruneRecentOf : View → (fits : Bool) → List ℕ → ℕ → Outcome Pruned
 pruneRecentOf a fits area n =
     let left : List Segment = dropNew n (a .segs) in
-    pruneOf a fits area n (cutOff a area n (frontOf left) (headOf left) (findCut (imageIn area (a .c) (headOf left)) n 0))
+    pruneOf a fits area n (cutOff a area n (frontOf left) (headOf left) (cutIn (headOf left) (imageIn area (a .c) (headOf left)) n))
 
 -- ---- as the code holds the log
 

@@ -10,7 +10,7 @@ ghost use Rattle.seglog.specs.Fit.{fittingOf};
 ghost use Rattle.segment.specs.Segment.{noSegment};
 ghost use Rattle.seglog_prune.specs.Decide.{earlyOf};
 ghost use Rattle.seglog_prune.specs.Drop.{dropOld, dropNew};
-ghost use Rattle.seglog_prune.specs.Cut.{findCut, cutOf};
+ghost use Rattle.seglog_prune.specs.Cut.{lookAt, cutAt, findCut, cutIn, cutOf};
 ghost use Rattle.seglog_prune.specs.Prune.{startedAt, oldestLog, recentLog, pruneAnswer, pruneArea};
 ghost use Rattle.seglog_prune.specs.Steps.{settledOf, endedLog};
 use seglog::Log;
@@ -28,9 +28,22 @@ enum Early {
     Onward,
 }
 
-// Where the record looked for ends, with its padding; or that it is not there.
+// The record that a log is cut behind, its newest then: where its header starts in the slot, and its padded end.
+pub struct Newest {
+    pub at: u64,
+    pub end: u64,
+}
+
+// What stands at a place of an image where a record is looked for: that record; another one, with its padded end; or none.
+enum Look {
+    Here(Newest),
+    Other(u64),
+    Nothing,
+}
+
+// The record looked for, or that it is not there.
 enum CutAnswer {
-    At(u64),
+    At(Newest),
     Lost,
 }
 
@@ -94,26 +107,61 @@ fn remaining(segs: [Segment; 64], count: usize, n: u64) -> usize
     0
 }
 
-// The padded end of the first record of an image that has the id n. A payload past the image ends the search, whose ever it is.
+// What the header at a place of an image tells of the record n. A payload past the image is no record, whose ever it is.
+fn look_at(img: &[u8], n: u64, at: u64) -> Look
+    ensures { λ r. ⌜ r ≡ lookAt (now (img .entry)) n at ⌝ }
+{
+    let size = img.len() as u64;
+    let answer = record::read_header(img, at as usize);
+    let RecordAnswer::Record(found) = walk::record_at(size, at, answer) else {
+        return Look::Nothing;
+    };
+    if size < found.end {
+        return Look::Nothing;
+    }
+    if found.id == n {
+        return Look::Here(Newest {
+            at,
+            end: found.next,
+        });
+    }
+    Look::Other(found.next)
+}
+
+// The record n by the one header at a place.
+fn cut_at(img: &[u8], n: u64, at: u64) -> CutAnswer
+    ensures { λ r. ⌜ cutOf r ≡ cutAt (now (img .entry)) n at ⌝ }
+{
+    match look_at(img, n, at) {
+        Look::Here(newest) => CutAnswer::At(newest),
+        Look::Other(_) | Look::Nothing => CutAnswer::Lost,
+    }
+}
+
+// The first record of an image that has the id n, by the headers from the front on.
 fn find_cut(img: &[u8], n: u64) -> CutAnswer
     ensures { λ r. ⌜ cutOf r ≡ findCut (now (img .entry)) n 0 ⌝ }
 {
     let size = img.len() as u64;
     let mut at: u64 = 0;
     while at < size {
-        let answer = record::read_header(img, at as usize);
-        let RecordAnswer::Record(found) = walk::record_at(size, at, answer) else {
-            return CutAnswer::Lost;
-        };
-        if size < found.end {
-            return CutAnswer::Lost;
+        match look_at(img, n, at) {
+            Look::Here(newest) => return CutAnswer::At(newest),
+            Look::Other(next) => at = next,
+            Look::Nothing => return CutAnswer::Lost,
         }
-        if found.id == n {
-            return CutAnswer::At(found.next);
-        }
-        at = found.next;
     }
     CutAnswer::Lost
+}
+
+// The record n of a segment with its image: the newest one by its header alone, any other by the search.
+fn cut_in(g: Segment, img: &[u8], n: u64) -> CutAnswer
+    ensures { λ r. ⌜ cutOf r ≡ cutIn g (now (img .entry)) n ⌝ }
+{
+    if g.max == n {
+        return cut_at(img, n, g.newest_at);
+    }
+    find_cut(img, n)
 }
 
 // 2, the two easy outcomes, 8, 9.
@@ -173,16 +221,16 @@ fn started(log: Log, n: u64) -> Log
     }
 }
 
-// The log of the first `left` segments, of which the last ends with the record n, at x.
-fn ended(log: Log, left: usize, n: u64, x: u64) -> Log
+// The log of the first `left` segments, of which the last ends with the record n.
+fn ended(log: Log, left: usize, n: u64, newest: Newest) -> Log
     requires { ⌜ (0 < left) × (left ≤ 64) ⌝ }
-    ensures { λ r. ⌜ r ≡ endedLog log left n x ⌝ }
+    ensures { λ r. ⌜ r ≡ endedLog log left n newest ⌝ }
 {
     let all = log.segs;
     let mut segs = cleared(all, left);
     let at = left - 1;
     let g = segs[at];
-    segs[at] = segment::ended_at(g, n, x);
+    segs[at] = segment::ended_at(g, n, newest.at, newest.end);
     Log {
         k: log.k,
         c: log.c,
@@ -223,12 +271,12 @@ pub fn prune_recent(log: Log, area: &mut [u8], new_end_live: u64) -> Logged
     let head = segs[left - 1];
     let from = (head.slot as u64 * log.c) as usize;
     let to = from + head.size as usize;
-    let CutAnswer::At(end) = find_cut(&area[from..to], new_end_live) else {
+    let CutAnswer::At(newest) = cut_in(head, &area[from..to], new_end_live) else {
         return Logged { refusal: 10, log };
     };
-    segment::truncate(area, log.c, head.slot, head.size, end);
+    segment::truncate(area, log.c, head.slot, head.size, newest.end);
     Logged {
         refusal: 0,
-        log: ended(log, left, new_end_live, end),
+        log: ended(log, left, new_end_live, newest),
     }
 }

@@ -2,7 +2,7 @@
 -- what holds of each. Laws: proofs/Chain.antt. Assumes nothing.
 use mathlib.Core.List.{List, [], _∷_}
 use mathlib.Core.Path.{_≡_}
-use Prim.Native.Nat.{ℕ, _+_, _≤_, _<_}
+use Prim.Native.Nat.{ℕ, _+_, _%_, _≤_, _<_}
 use Rattle.segment.specs.declared.Segment.{Segment}
 
 -- one segment of a chain: its id and its first record id, and what P says of it
@@ -17,8 +17,14 @@ abbrev pub Chain : (Segment → Type 0) → ℕ → ℕ → List Segment → ℕ
 Chain P i a [] j b = (i ≡ j) × (a ≡ b)
 Chain P i a (g ∷ gs) j b = Link P i a g × Chain P (i + 1) (g .max + 1) gs j b
 
--- a segment in one of k slots of c bytes, with a byte or more
+-- a newest record at `at`, on a whole page, whose header fits below the size
+pub record NewestFits (at size : ℕ) : Type 0 where
+  pub pages : at % 4096 ≡ 0
+  pub header : at + 12 ≤ size
+
+-- a segment in one of k slots of c bytes, with a byte or more, whose newest record fits
 pub record InSlot (k c : ℕ) (g : Segment) : Type 0 where
   pub slot : g .slot < k
   pub some : 1 ≤ g .size
   pub size : g .size ≤ c
+  pub newest : NewestFits (g .«newest_at») (g .size)

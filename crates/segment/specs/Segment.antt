@@ -9,7 +9,7 @@ use Rattle.segment.specs.declared.ImageRow.{ImageRow}
 
 -- the entry of no segment
 abbrev pub noSegment : Segment
-noSegment = record { id = 0; slot = 0; size = 0; min = 0; max = 0 }
+noSegment = record { id = 0; slot = 0; size = 0; min = 0; max = 0; «newest_at» = 0 }
 
 -- the entry of no row
 abbrev pub noRow : ImageRow
@@ -31,9 +31,9 @@ imageIn area c g = imageAt area c (g .slot) (g .size)
 abbrev pub imageOf : List ℕ → ℕ → ImageRow → List ℕ
 imageOf area c r = imageAt area c (r .slot) (r .size)
 
--- g ends with the record n, whose padded end is x
-abbrev pub endedAt : Segment → ℕ → ℕ → Segment
-endedAt g n x = record { id = g .id; slot = g .slot; size = x; min = g .min; max = n }
+-- g ends with the record n, whose header starts at `at` and whose padded end is x
+abbrev pub endedAt : Segment → (n at x : ℕ) → Segment
+endedAt g n at x = record { id = g .id; slot = g .slot; size = x; min = g .min; max = n; «newest_at» = at }
 
 -- "A missing tail of padding is written as zeros": from the old size of g to its new one, x
 abbrev pub paddedTo : ℕ → List ℕ → Segment → ℕ → List ℕ

@@ -14,6 +14,8 @@ pub struct Segment {
     // the lowest and the highest record id
     pub min: u64,
     pub max: u64,
+    // where the header of the record max starts, in the slot
+    pub newest_at: u64,
 }
 
 // An image row: which slot holds the image of a segment, and how many bytes it has.
@@ -34,6 +36,7 @@ pub fn no_segment() -> Segment
         size: 0,
         min: 0,
         max: 0,
+        newest_at: 0,
     }
 }
 
@@ -48,9 +51,9 @@ pub fn no_row() -> ImageRow
     }
 }
 
-// The segment, ended with the record n, whose padded end is x.
-pub fn ended_at(g: Segment, n: u64, x: u64) -> Segment
-    ensures { λ r. ⌜ r ≡ endedAt g n x ⌝ }
+// The segment, ended with the record n, whose header starts at `at` and whose padded end is x.
+pub fn ended_at(g: Segment, n: u64, at: u64, x: u64) -> Segment
+    ensures { λ r. ⌜ r ≡ endedAt g n at x ⌝ }
 {
     Segment {
         id: g.id,
@@ -58,6 +61,7 @@ pub fn ended_at(g: Segment, n: u64, x: u64) -> Segment
         size: x,
         min: g.min,
         max: n,
+        newest_at: at,
     }
 }
 

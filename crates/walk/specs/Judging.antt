@@ -56,17 +56,19 @@ liveOf s e id = pick (leb s id) (leb id e) false
 unfoldable pub cutOf : (size s e id end : ℕ) → Bool
 cutOf size s e id end = pick (liveOf s e id) (ltb size end) false
 
--- the state after a good record
+-- the state after a good record, which stands at the state's place
 abbrev pub passedOf : Scan → (s e : ℕ) → Placed → Scan
 passedOf w s e p = record {
   pos = p .next;
   last = p .id;
   min = pick (eqb (w .min) 0) (p .id) (w .min);
   max = p .id;
+  «newest_at» = w .pos;
   body = p .body;
   len = p .len;
   «found_s» = w .«found_s» || eqb (p .id) s;
   «found_e» = w .«found_e» || eqb (p .id) e;
+  «start_of_e» = pick (eqb (p .id) e) (w .pos) (w .«start_of_e»);
   «end_of_e» = pick (eqb (p .id) e) (p .next) (w .«end_of_e»);
   gap = w .gap;
 }
@@ -110,10 +112,12 @@ startOf = record {
   last = 0;
   min = 0;
   max = 0;
+  «newest_at» = 0;
   body = 0;
   len = 0;
   «found_s» = false;
   «found_e» = false;
+  «start_of_e» = 0;
   «end_of_e» = 0;
   gap = false;
 }
@@ -125,10 +129,12 @@ openedOf w n = record {
   last = w .last;
   min = 0;
   max = 0;
+  «newest_at» = 0;
   body = w .body;
   len = w .len;
   «found_s» = w .«found_s»;
   «found_e» = w .«found_e»;
+  «start_of_e» = w .«start_of_e»;
   «end_of_e» = w .«end_of_e»;
   gap = eqb n 0;
 }

@@ -14,16 +14,18 @@ pub struct Scan {
     pub pos: u64,
     // the last record's id, 0 before the first
     pub last: u64,
-    // the first and the last id of this image, 0 before the first
+    // the first and the last id of this image, and where the last one's record starts; 0 before the first
     pub min: u64,
     pub max: u64,
+    pub newest_at: u64,
     // the last record's payload: its place in the image, and its length
     pub body: u64,
     pub len: u64,
     // whether s and e were found
     pub found_s: bool,
     pub found_e: bool,
-    // the padded end of the record e
+    // where the record e starts, and its padded end
+    pub start_of_e: u64,
     pub end_of_e: u64,
     // whether the image opened last has size 0
     pub gap: bool,
@@ -67,10 +69,12 @@ pub fn start() -> Scan
         last: 0,
         min: 0,
         max: 0,
+        newest_at: 0,
         body: 0,
         len: 0,
         found_s: false,
         found_e: false,
+        start_of_e: 0,
         end_of_e: 0,
         gap: false,
     }
@@ -84,6 +88,7 @@ pub fn opened(state: Scan, size: u64) -> Scan
     next.pos = 0;
     next.min = 0;
     next.max = 0;
+    next.newest_at = 0;
     next.gap = size == 0;
     next
 }

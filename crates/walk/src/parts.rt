@@ -74,7 +74,7 @@ fn choose(test: bool, a: u64, b: u64) -> u64
     if test { a } else { b }
 }
 
-// The state after a good record.
+// The state after a good record, which stands at the state's place.
 fn pass(state: Scan, s: u64, e: u64, found: Placed) -> Scan
     ensures { λ r. ⌜ r ≡ passedOf state s e found ⌝ }
 {
@@ -86,10 +86,12 @@ fn pass(state: Scan, s: u64, e: u64, found: Placed) -> Scan
         last: found.id,
         min: choose(fresh, found.id, state.min),
         max: found.id,
+        newest_at: state.pos,
         body: found.body,
         len: found.len,
         found_s: state.found_s | is_s,
         found_e: state.found_e | is_e,
+        start_of_e: choose(is_e, state.pos, state.start_of_e),
         end_of_e: choose(is_e, found.next, state.end_of_e),
         gap: state.gap,
     }

@@ -8,7 +8,8 @@ use lib.ListN.{length, getD, drop}
 use borrow.Author.Tests.{not-true, not-false}
 use Rattle.segment.specs.Segment.{noSegment}
 use Rattle.seglog.specs.View.{zerosOf}
-use Rattle.lists.proofs.Bounds.{index-below, index-falls, index-fits, entry-fits, some-left, none-left, left-falls, left-below}
+use Rattle.lists.proofs.Bounds.{index-below, index-falls, index-fits, some-left, none-left, left-falls, left-below}
+use Rattle.segment.proofs.Bounds.{entry-fits}
 use Rattle.seglog.proofs.Bounds.{entry-inside, entries-end, last-below}
 use Rattle.lists.proofs.Arrays.{unmapped}
 use Rattle.lists.proofs.Distinct.{marks}

@@ -10,7 +10,7 @@ use Rattle.lists.proofs.Arrays.{unmapped}
 use Rattle.record.specs.Record.{recordRoom}
 use Rattle.seglog.specs.View.{viewOf}
 use Rattle.seglog_append.specs.Deciding.{opensOf, nextId}
-use Rattle.lists.proofs.Bounds.{entry-fits}
+use Rattle.segment.proofs.Bounds.{entry-fits}
 use Rattle.seglog.proofs.Bounds.{last-below}
 use Rattle.seglog_append.proofs.Deciding.{
   Past,

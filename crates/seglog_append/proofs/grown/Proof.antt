@@ -22,7 +22,7 @@ returns : tie.Need-returns
 returns c =
     let a = c .before .before .before .args in
     ap (λ (g : Segment). answer (a .t1) (a .place .at) (c .before .start-after .result) g) (c .ended-at .ensures)
-    ∙ ap (λ (s : ℕ). answer (a .t1) (a .place .at) s (endedAt (a .place .target) (a .t1 .end + 1) (a .size)))
+    ∙ ap (λ (s : ℕ). answer (a .t1) (a .place .at) s (endedAt (a .place .target) (a .t1 .end + 1) (a .place .target .size) (a .size)))
     (c .before .start-after .ensures)
 
 pub grown-spec : {M : Type 1} → statement M

@@ -1,4 +1,4 @@
--- `seglog_prune::ended` meets its contract: the entries behind are cleared, and the last segment ends at x.
+-- `seglog_prune::ended` meets its contract: the entries behind are cleared, and the last segment ends with the record.
 -- Assumes nothing.
 use mathlib.Core.Path.{_≡_, ap}
 use lib.ListN.{length, set}
@@ -20,7 +20,7 @@ returns : tie.Need-returns
 returns c =
     let cleared = c .before .before in
     let s = cleared .before .before in
-    ended-is (s .args .log) (s .args .left) (s .args .n) (s .args .x) _ _ (long-of s) (s .pre .0) (s .pre .1) (cleared .cleared .ensures)
+    ended-is (s .args .log) (s .args .left) (s .args .n) (s .args .newest) _ _ (long-of s) (s .pre .0) (s .pre .1) (cleared .cleared .ensures)
     (ap (λ (g : Segment). set (cleared .cleared .result) (s .args .left - 1) g) (c .ended-at .ensures))
 
 pub ended-spec : {M : Type 1} → statement M

@@ -17,9 +17,10 @@ use Rattle.lists.proofs.Arrays.{unmapped}
 use Rattle.seglog.proofs.Fit.{SegmentGood}
 use Rattle.seglog_prune.specs.declared.Early.the-variants.{Onward}
 use Rattle.lists.specs.Outcome.{done}
-use Rattle.seglog_prune.specs.Cut.{findCut, cutOf}
+use Rattle.seglog_prune.specs.Cut.{cutIn, cutOf}
 use Rattle.seglog_prune.specs.Prune.{pruneAnswer, pruneArea}
-use Rattle.lists.proofs.Bounds.{entry-fits, left-below, part-first, part-size, part-within, part-start-fits, part-end-fits}
+use Rattle.lists.proofs.Bounds.{left-below, part-first, part-size, part-within, part-start-fits, part-end-fits}
+use Rattle.segment.proofs.Bounds.{entry-fits}
 use Rattle.seglog_prune.proofs.Cut.{cut-within}
 use Rattle.seglog_prune.proofs.Decide.{early-inner, plain-few, fits-plain}
 use Rattle.seglog_prune.proofs.Prune.{
@@ -61,11 +62,11 @@ left-of c = c .remaining .result
 abbrev head-of : tie.After-remaining → Segment
 head-of c = getD (log-of c .segs) (left-of c - 1) noSegment
 
-abbrev left-at : tie.After-find-cut → tie.After-remaining
+abbrev left-at : tie.After-cut-in → tie.After-remaining
 left-at c = c .before .before .before .before .before .before
 
--- where the search answered, and where the area is cut
-abbrev found-at : tie.After-known-told → tie.After-find-cut
+-- where the cut was looked for, and where the area is cut
+abbrev found-at : tie.After-known-told → tie.After-cut-in
 found-at c = c .before .before .before
 
 abbrev cut-told : tie.After-truncate → tie.After-known-told
@@ -120,20 +121,20 @@ module _ (c : tie.After-remaining) where
       take-within : (b : ℕ) (l : List ℕ) {n : ℕ} → b ≤ n → length (take b l) ≤ n
       take-within b l h = omega (arith, length-take b l)
 
--- what the search answers is what is found in the image
-found : (c : tie.After-find-cut) → let r = left-at c in
-    cutOf (c .find-cut .result) ≡ findCut (imageIn (area-of r) (log-of r .c) (head-of r)) (end-of r) 0
-found c = let r = left-at c in c .find-cut .ensures ∙ ap (λ (img : List ℕ). findCut img (end-of r) 0) (image-is r)
+-- what is answered is what is found in the image
+found : (c : tie.After-cut-in) → let r = left-at c in
+    cutOf (c .cut-in .result) ≡ cutIn (head-of r) (imageIn (area-of r) (log-of r .c) (head-of r)) (end-of r)
+found c = let r = left-at c in c .cut-in .ensures ∙ ap (λ (img : List ℕ). cutIn (head-of r) img (end-of r)) (image-is r)
 
 -- the cut that was found
 cut-of : (c : tie.After-known-told) → let r = left-at (found-at c) in
-    findCut (imageIn (area-of r) (log-of r .c) (head-of r)) (end-of r) 0 ≡ done (c .before .end .given .0 .0)
-cut-of c = sym (found (found-at c)) ∙ ap cutOf (c .before .end .given .1)
+    cutIn (head-of r) (imageIn (area-of r) (log-of r .c) (head-of r)) (end-of r) ≡ done (c .before .newest .given .0 .0)
+cut-of c = sym (found (found-at c)) ∙ ap cutOf (c .before .newest .given .1)
 
-cut-small : (c : tie.After-known-told) → c .before .end .given .0 .0 ≤ log-of (left-at (found-at c)) .c
+cut-small : (c : tie.After-known-told) → c .before .newest .given .0 .0 .end ≤ log-of (left-at (found-at c)) .c
 cut-small c =
     let r = left-at (found-at c) in
-    cut-within _ _ _ _ (cut-of c) (image-small r) (pages r .whole-pages)
+    cut-within _ _ _ _ (good r .newest .pages) (cut-of c) _ (image-small r) (pages r .whole-pages)
 
 enum-told : tie.Need-enum-told
 enum-told c = c .match .keys1
@@ -169,17 +170,17 @@ mul-from c = let r = c .before .before .before in part-start-fits _ _ (inside r)
 add-to : tie.Need-add-to
 add-to c = let r = c .before .before .before in part-end-fits _ _ (part-within _ _ _ (inside r) (good r .size)) (small r)
 
-sub-find-cut : tie.Need-sub-find-cut
-sub-find-cut c = part-first _ _
+sub-cut-in : tie.Need-sub-cut-in
+sub-cut-in c = part-first _ _
 
-part-find-cut-start : tie.Need-part-find-cut-start
-part-find-cut-start c = part-first _ _
+part-cut-in-start : tie.Need-part-cut-in-start
+part-cut-in-start c = part-first _ _
 
-part-find-cut-end : tie.Need-part-find-cut-end
-part-find-cut-end c = let part = c .before in let r = part .before .before .before in part-within _ _ _ (inside r) (good r .size)
+part-cut-in-end : tie.Need-part-cut-in-end
+part-cut-in-end c = let part = c .before in let r = part .before .before .before in part-within _ _ _ (inside r) (good r .size)
 
-enum-known-end : tie.Need-enum-known-end
-enum-known-end c = c .match2 .keys1
+enum-known-newest : tie.Need-enum-known-newest
+enum-known-newest c = c .match2 .keys1
 
 enum-told-2 : tie.Need-enum-told-2
 enum-told-2 c = c .match2 .keys2
@@ -204,8 +205,8 @@ returns-3 : tie.Need-returns-3
 returns-3 c =
     let told = cut-told (c .before .before .before) in
     let r = left-at (found-at told) in
-    let x = told .before .end .given .0 .0 in
-    let padded = truncated-padded (area-of r) (log-of r .c) x (head-of r) (inside r) (cut-small told) in (
+    let x = told .before .newest .given .0 .0 in
+    let padded = truncated-padded (area-of r) (log-of r .c) (x .end) (head-of r) (inside r) (cut-small told) in (
       ap accepted (c .ended .ensures) ∙ recent-answer (log-of r) (area-of r) (end-of r) (left-of r) (staying-of r) x (cut-of told),
       c .before .before .before .truncate .ensures ∙ padded ∙ recent-area (log-of r) (area-of r) (end-of r) (left-of r) (staying-of r) x
           (cut-of told),
@@ -226,11 +227,11 @@ prune-recent-spec =
     cast-from
     mul-from
     add-to
-    sub-find-cut
-    part-find-cut-start
-    part-find-cut-end
+    sub-cut-in
+    part-cut-in-start
+    part-cut-in-end
     (λ c κs. tt)
-    enum-known-end
+    enum-known-newest
     enum-told-2
     same-length
     returns-2

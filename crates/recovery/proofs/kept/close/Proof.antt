@@ -56,16 +56,16 @@ mul-segs c = record { fits = omega (arith, at-few (keep-of c)) }
 array-set-from-segs : tie.Need-array-set-from-segs
 array-set-from-segs c = at-few (keep-of c)
 
-sub-t27 : tie.Need-sub-t27
-sub-t27 c = start-of (keep-of c) .pre .range .order
+sub-t28 : tie.Need-sub-t28
+sub-t28 c = start-of (keep-of c) .pre .range .order
 
-add-t28 : tie.Need-add-t28
-add-t28 c = let p = start-of (keep-of c) .pre .range in search needs
+add-t29 : tie.Need-add-t29
+add-t29 c = let p = start-of (keep-of c) .pre .range in search needs
 
 returns : tie.Need-returns
 returns c =
     let k = keep-of c in
-    close-did _ _ _ _ _ _ _ _ (gs-of k) _ (k .keep .ensures) (start-of k .pre) _ _ (c .ended-at .ensures)
+    close-did _ _ _ _ _ _ _ _ _ (gs-of k) _ (k .keep .ensures) (start-of k .pre) _ _ (c .ended-at .ensures)
     (cut-of c .truncate .ensures)
 
 pub close-spec : {M : Type 1} → statement M
@@ -81,7 +81,7 @@ close-spec =
     mul-segs
     array-set-from-segs
     (λ c. search needs)
-    sub-t27
-    add-t28
+    sub-t28
+    add-t29
     (λ c. search needs)
     returns)

@@ -20,7 +20,8 @@ use Rattle.walk.proofs.Walk.{walk-more, walk-end, walk-fault}
 use Rattle.recovery_walk.specs.Images.{images, rowAt, faultOf}
 use Rattle.recovery_walk.specs.Scan.{scannedOf, settledOf}
 use Rattle.recovery_walk.proofs.Images.{image-refused}
-use Rattle.lists.proofs.Bounds.{index-below, index-falls, index-fits, entry-fits, part-first, part-start-fits, part-end-fits}
+use Rattle.lists.proofs.Bounds.{index-below, index-falls, index-fits, part-first, part-start-fits, part-end-fits}
+use Rattle.segment.proofs.Bounds.{entry-fits}
 use Rattle.recovery_walk.proofs.Bounds.{row-fits, place-falls, fault-some}
 use Rattle.recovery_walk.proofs.ImagesTurn.{AtImages, AtRecords, partOf, part-size, image-by-part, at-first, settled-bad}
 use Rattle.recovery_walk.proofs.ImagesTurn.{settled-good, turn-fault, turn-next}
