@@ -62,9 +62,9 @@ extern "C" {
 
 /* ---- version: also what `pkg-config --modversion iflughan` says */
 #define IFLUGHAN_VERSION_MAJOR 0
-#define IFLUGHAN_VERSION_MINOR 1
+#define IFLUGHAN_VERSION_MINOR 2
 #define IFLUGHAN_VERSION_PATCH 0
-#define IFLUGHAN_VERSION "0.1.0"
+#define IFLUGHAN_VERSION "0.2.0"
 
 /* ---- limits */
 #define IFLUGHAN_MOST_SLOTS 64                /* K, and the image rows of a recovery */
@@ -133,11 +133,12 @@ enum {
 
 /* ---- structs */
 
-/* A listed segment: its image is the first `size` bytes of its slot; `min` and `max` are its lowest and highest record id. */
-typedef struct { uint32_t id, slot; uint64_t size, min, max; } iflughan_segment;
+/* A listed segment: its image is the first `size` bytes of its slot; `min` and `max` are its lowest and highest record id. The header
+ * of the record `max`, its newest, starts at `newest_at` in the slot: a multiple of 4096, with its 12 bytes below `size`. 40 bytes. */
+typedef struct { uint32_t id, slot; uint64_t size, min, max, newest_at; } iflughan_segment;
 
 /* The log: K slots of C bytes, soft size M, the live range, and the listed segments, `count` of them, oldest first; unused entries
- * are zero. */
+ * are zero. 2,608 bytes. */
 typedef struct {
     uint64_t slots, capacity, soft_size;
     uint64_t start_live, end_live, count;
@@ -178,7 +179,7 @@ typedef struct { uint32_t refusal, reserved; uint64_t consumed; iflughan_delta t
 iflughan_logged iflughan_new(uint64_t k, uint64_t c, uint64_t m, uint8_t *area, size_t area_len);
 
 /* Appends a record under the id after the live end. Refuses with 2, 3, 4, 5, 6, 7, in this order. Changes only the bytes of the
- * head's slot from its old size to its new, padded size. */
+ * head's slot from its old size, its newest_at from then on, to its new, padded size. */
 iflughan_appended iflughan_append(iflughan_log log, uint8_t *area, size_t area_len, const uint8_t *payload, size_t payload_len);
 
 /* Drops leading segments whose max is below new_start_live, never the last, and sets the live start. 0 gives the empty log; on an
@@ -186,8 +187,10 @@ iflughan_appended iflughan_append(iflughan_log log, uint8_t *area, size_t area_l
 iflughan_logged iflughan_prune_oldest(iflughan_log log, uint8_t *area, size_t area_len, uint64_t new_start_live);
 
 /* Takes back what is newer than new_end_live: drops trailing segments, cuts the last kept one behind that record and sets the live
- * end. 0 gives the empty log; on an empty log any argument gives the same log. Refuses with 2, 8, 9, 10, in this order. Writes
- * zeros where the kept record's padding was missing, and changes no other byte. */
+ * end. Where that record is the segment's max, its header at newest_at is all that is read of the image: a record with another id, a
+ * length above 2^30 or a payload past the size is 10 there. Any other record is looked for from the image's front on. 0 gives the
+ * empty log; on an empty log any argument gives the same log. Refuses with 2, 8, 9, 10, in this order. Writes zeros where the kept
+ * record's padding was missing, and changes no other byte. */
 iflughan_logged iflughan_prune_recent(iflughan_log log, uint8_t *area, size_t area_len, uint64_t new_end_live);
 
 /* The log of the records s..e from the images in the area, which `images` lists in any order. Refuses with 1, 11, 12, 13, 14, 15,
@@ -195,7 +198,8 @@ iflughan_logged iflughan_prune_recent(iflughan_log log, uint8_t *area, size_t ar
  * the rest of its image and later images are not looked at, and 16 to 20 speak only of what stands up to e; where e is not met, of
  * all images. On acceptance the index begins with `rows` rows of four words (record id, slot, offset of the payload in the slot,
  * length), one for each of s..e in order; its later words stay. Needs 4 x (e - s + 1) words. Writes zeros to the area where e's
- * padding was missing, and changes no other byte. The range (0, 0) gives the empty log and no rows. */
+ * padding was missing, and changes no other byte. A kept segment's min, max and newest_at are those of the records read in it. The
+ * range (0, 0) gives the empty log and no rows. */
 iflughan_recovered iflughan_recover(uint64_t k, uint64_t c, uint64_t m, uint8_t *area, size_t area_len, const iflughan_image *images,
                                     size_t image_count, uint64_t s, uint64_t e, uint64_t *index, size_t index_words);
 
@@ -224,7 +228,7 @@ iflughan_decoded iflughan_delta_decode(const uint8_t *input, size_t input_len);
  * this order. Later bytes of `out` stay. */
 iflughan_written iflughan_delta_encode(iflughan_delta table, const uint8_t *values, size_t values_len, uint8_t *out, size_t out_len);
 
-/* Document 01's words for a refusal; a number that no function answers is "unknown refusal". */
+/* Document 01's words for a refusal, 10 with what newest_at adds; a number that no function answers is "unknown refusal". */
 static inline const char *iflughan_refusal_text(uint32_t number) {
     switch (number) {
     case IFLUGHAN_ACCEPTED: return "accepted";
@@ -238,7 +242,7 @@ static inline const char *iflughan_refusal_text(uint32_t number) {
     case IFLUGHAN_PRUNE_ABOVE_LIVE_END: return "prune above live end";
     case IFLUGHAN_PRUNE_BELOW_LIVE_START: return "prune below live start";
     case IFLUGHAN_CUT_NOT_FOUND:
-        return "cut not found: short header, length above 2^30, a payload that ends past the size, or end of image first";
+        return "cut not found: another id at newest_at, short header, length above 2^30, payload past the size, or end of image first";
     case IFLUGHAN_ONE_END_ZERO: return "exactly one of s, e is 0";
     case IFLUGHAN_START_ABOVE_END: return "s > e";
     case IFLUGHAN_IMAGE_ROWS_WRONG: return "over 64 rows, slot >= K, slot twice, or size > C";

@@ -106,6 +106,7 @@ static void specimen_14(iflughan_log log) {
     iflughan_recovered middle = recover(&log, 2, 3);
     answered(middle.refusal, 0, "recover 2..3");
     holds(middle.log.count == 2 && middle.log.segments[1].size == PAGE, "recovering 2..3 keeps both, head size 4096");
+    holds(middle.log.segments[0].newest_at == PAGE && middle.log.segments[1].newest_at == 0, "records 2 and 3 start at 4096 and at 0");
     print_recovered(&middle);
     printf("head size %" PRIu64 "\n", middle.log.segments[1].size);
 

@@ -103,6 +103,15 @@ fn specimen_14(log: &Log) -> Result<(), Wrong> {
         sizes == [8192, 4096],
         "recovering 2..3 keeps both, head size 4096",
     )?;
+    let newest: Vec<u64> = middle
+        .segments()
+        .iter()
+        .map(|segment| segment.newest_at)
+        .collect();
+    holds(
+        newest == [PAGE as u64, 0],
+        "records 2 and 3 start at 4096 and at 0",
+    )?;
     print_log(&middle);
     println!("head size {}", sizes[1]);
 

@@ -41,6 +41,7 @@ static void slots_and_capacity(void) {
     answers(new_log(1, (uint64_t)IFLUGHAN_MOST_CAPACITY + PAGE), IFLUGHAN_OUTSIDE_RULES, "a page more");
     answers(new_log(1, PAGE + 1), IFLUGHAN_OUTSIDE_RULES, "a capacity that is no multiple of the page");
     holds(sizeof((iflughan_log *)0)->segments / sizeof(iflughan_segment) == IFLUGHAN_MOST_SLOTS, "a log has other slots");
+    holds(sizeof(iflughan_segment) == 40 && sizeof(iflughan_log) == 2608, "a segment or a log has another size than the header says");
 }
 
 /* A payload that fills its page, one that does not fit it, the longest and one more: 3 comes before 7. */
@@ -57,6 +58,21 @@ static void records(void) {
     more = (uint64_t)IFLUGHAN_MOST_PAYLOAD + 1;
     answers(iflughan_append(log, area, sizeof area, longest, more - 1).refusal, IFLUGHAN_RECORD_TOO_LONG, "the longest payload");
     answers(iflughan_append(log, area, sizeof area, longest, more).refusal, IFLUGHAN_PAYLOAD_TOO_LONG, "a byte more");
+}
+
+/* Where the newest record starts: what an append says, what a well-shaped log asks, and that a cut there reads nothing else. */
+static void newest(void) {
+    iflughan_log log = iflughan_new(1, 2 * PAGE, 2 * PAGE, area, sizeof area).log;
+    log = iflughan_append(log, area, sizeof area, NULL, 0).log;
+    log = iflughan_append(log, area, sizeof area, NULL, 0).log;
+    holds(log.segments[0].newest_at == PAGE, "the newest record starts elsewhere");
+    memset(area, 0xff, PAGE);
+    answers(iflughan_prune_recent(log, area, sizeof area, 2).refusal, IFLUGHAN_ACCEPTED, "a cut at the newest record");
+    answers(iflughan_prune_recent(log, area, sizeof area, 1).refusal, IFLUGHAN_CUT_NOT_FOUND, "a cut in a damaged page");
+    log.segments[0].newest_at = PAGE + 1;
+    answers(iflughan_prune_recent(log, area, sizeof area, 2).refusal, IFLUGHAN_NOT_WELL_SHAPED, "newest_at a byte behind a page");
+    log.segments[0].newest_at = 2 * PAGE;
+    answers(iflughan_prune_recent(log, area, sizeof area, 2).refusal, IFLUGHAN_NOT_WELL_SHAPED, "newest_at at the size");
 }
 
 /* A row's words, in the order of iflughan_index_row. */
@@ -94,6 +110,7 @@ static void deltas_and_names(void) {
 int main(void) {
     slots_and_capacity();
     records();
+    newest();
     rows();
     deltas_and_names();
     return wrong;

@@ -7,8 +7,8 @@
 enum { K = 2, C = 8192, M = 4096, AREA = K * C, STACK = 1 << 20, PAINT = 0xa5 };
 
 static uint8_t stack[STACK] __attribute__((aligned(64)));
-static uint8_t area[AREA], bytes[IFLUGHAN_MOST_KEYS * 64];
-static iflughan_log log_value;
+static uint8_t area[AREA], other_area[AREA], bytes[IFLUGHAN_MOST_KEYS * 64];
+static iflughan_log log_value, one_segment;
 static iflughan_delta table;
 static iflughan_index_row rows[2];
 static uint32_t refusal;
@@ -21,6 +21,7 @@ static void call_append(void) {
 }
 static void call_prune_oldest(void) { refusal = iflughan_prune_oldest(log_value, area, AREA, 2).refusal; }
 static void call_prune_recent(void) { refusal = iflughan_prune_recent(log_value, area, AREA, 1).refusal; }
+static void call_prune_recent_walked(void) { refusal = iflughan_prune_recent(one_segment, other_area, AREA, 1).refusal; }
 static void call_recover(void) {
     iflughan_image images[] = {{2, 1, 4096}, {1, 0, 4096}};
     refusal = iflughan_recover(K, C, M, area, AREA, images, 2, 1, 2, (uint64_t *)rows, 2 * IFLUGHAN_ROW_WORDS).refusal;
@@ -44,6 +45,12 @@ static void fill_table(void) {
         table.rows[i].present = i % 2;
         table.rows[i].length = 3;
     }
+}
+
+/* Two records in one segment: a cut at the first is walked. */
+static void fill_one_segment(void) {
+    one_segment = iflughan_new(K, C, C, other_area, AREA).log;
+    for (int i = 0; i < 2; i++) one_segment = iflughan_append(one_segment, other_area, AREA, NULL, 0).log;
 }
 
 /* Runs a call on the painted stack, and answers the bytes that it took. */
@@ -71,11 +78,13 @@ static int wrong(const char *name, void (*call)(void), size_t said) {
 
 int main(void) {
     fill_table();
+    fill_one_segment();
     log_value = iflughan_new(K, C, M, area, AREA).log;
     return wrong("new", call_new, IFLUGHAN_STACK_NEW) |
            wrong("append", call_append, IFLUGHAN_STACK_APPEND) | /* twice: records 1 and 2, each in a segment of its own */
            wrong("prune_oldest", call_prune_oldest, IFLUGHAN_STACK_PRUNE_OLDEST) |
-           wrong("prune_recent", call_prune_recent, IFLUGHAN_STACK_PRUNE_RECENT) |
+           wrong("prune_recent", call_prune_recent, IFLUGHAN_STACK_PRUNE_RECENT) | /* at a segment's newest record */
+           wrong("prune_recent", call_prune_recent_walked, IFLUGHAN_STACK_PRUNE_RECENT) |
            wrong("recover", call_recover, IFLUGHAN_STACK_RECOVER) |
            wrong("row_question", call_row_question, IFLUGHAN_STACK_ROW_QUESTION) |
            wrong("payload", call_payload, IFLUGHAN_STACK_PAYLOAD) |

@@ -20,6 +20,8 @@ pub struct Segment {
     pub min: u64,
     /// The highest record id in it.
     pub max: u64,
+    /// Where the header of the record `max`, the newest, starts in the slot.
+    pub newest_at: u64,
 }
 
 /// The log value: K, C, M, the live range and the listed segments, the oldest first.

@@ -99,16 +99,12 @@ impl<A: AsRef<[u8]> + AsMut<[u8]>> Log<A> {
     pub fn append(&mut self, payload: &[u8]) -> Result<u64, Error> {
         memory::reserve(&mut self.rows, 1)?;
         let (id, value) = calls::append(&self.value, self.area.as_mut(), payload)?;
-        let old = self.segments().last().copied();
         self.value = value;
         let head = self.segments()[self.segments().len() - 1];
-        let start = old
-            .filter(|old| old.id == head.id)
-            .map_or(0, |old| old.size);
         self.rows.push(Row {
             id,
             slot: u64::from(head.slot),
-            offset: start + HEADER_LENGTH,
+            offset: head.newest_at + HEADER_LENGTH,
             length: payload.len() as u64,
         });
         Ok(id)

@@ -3,7 +3,8 @@ use core::fmt;
 
 macro_rules! refusals {
     ($($number:literal $name:ident $words:literal;)*) => {
-        /// Why a call was refused. A refused call has changed nothing. [`core::fmt::Display`] prints document 01's words.
+        /// Why a call was refused. A refused call has changed nothing. [`core::fmt::Display`] prints document 01's words, those of 10
+        /// with what `newest_at` adds.
         ///
         /// ```
         /// use iflughan::Refusal;
@@ -56,7 +57,7 @@ refusals! {
     7 RecordTooLong "padded record above C minus the size (C for a new segment)";
     8 PruneAboveLiveEnd "prune above live end";
     9 PruneBelowLiveStart "prune below live start";
-    10 CutNotFound "cut not found: short header, length above 2^30, a payload that ends past the size, or end of image first";
+    10 CutNotFound "cut not found: another id at newest_at, short header, length above 2^30, payload past the size, or end of image first";
     11 OneEndZero "exactly one of s, e is 0";
     12 StartAboveEnd "s > e";
     13 ImageRowsWrong "over 64 rows, slot >= K, slot twice, or size > C";

@@ -27,6 +27,7 @@ fn logs_and_refused_recoveries_print_no_bytes() {
     let said = says_nothing(&log);
     assert!(said.contains("area_bytes: 16384"), "{said}");
     assert!(said.contains("live: Some(1..=1)"), "{said}");
+    assert!(said.contains("newest_at: 0"), "{said}");
     says_nothing(&log.payloads());
     says_nothing(log.value());
 

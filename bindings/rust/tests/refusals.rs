@@ -148,6 +148,24 @@ fn refusals_2_23_and_24_of_the_plain_calls() {
     );
 }
 
+/// A cut at the newest record reads its header and nothing before it; one at another record finds the damage.
+#[test]
+fn refusal_10_where_the_cut_looks() {
+    let log = two_records();
+    let newest_at = log.segments()[0].newest_at as usize;
+    for (damaged, cut, refusal) in [
+        (0, 2, None),
+        (0, 1, Some(Refusal::CutNotFound)),
+        (newest_at, 2, Some(Refusal::CutNotFound)),
+        (newest_at, 1, None),
+    ] {
+        let mut area = log.area().to_vec();
+        area[damaged + 4] ^= 0xff;
+        let after = calls::prune_recent(log.value(), &mut area, cut);
+        assert_eq!(after.err(), refusal, "byte {damaged}, cut at {cut}");
+    }
+}
+
 #[test]
 fn refusals_of_deltas() {
     let entry = |key: u8| Entry {

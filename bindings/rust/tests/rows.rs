@@ -1,4 +1,5 @@
-//! The rows that a log keeps are those that recovery finds in its images, and the payloads are those last appended.
+//! The rows that a log keeps are those that recovery finds in its images, and the payloads are those last appended. The newest record of
+//! each segment starts where the segment says.
 use iflughan::{Log, Shape};
 use std::collections::BTreeMap;
 
@@ -45,6 +46,15 @@ fn step(log: &mut Log, payloads: &mut BTreeMap<u64, Vec<u8>>, numbers: &mut Numb
     }
 }
 
+/// The row of each live record that is its segment's newest lies twelve bytes behind `newest_at`.
+fn newest_records_start_where_segments_say(log: &Log) {
+    for segment in log.segments() {
+        let newest = log.rows().iter().find(|row| row.id == segment.max).unwrap();
+        let place = (newest.slot, newest.offset);
+        assert_eq!(place, (u64::from(segment.slot), segment.newest_at + 12));
+    }
+}
+
 #[test]
 fn kept_rows_are_those_of_recovery() {
     let mut numbers = Numbers(1);
@@ -59,6 +69,7 @@ fn kept_rows_are_those_of_recovery() {
         let (s, e) = (*live.start(), *live.end());
         let recovered = Log::recover(SHAPE, log.area().to_vec(), &log.images(), s, e).unwrap();
         assert_eq!(recovered, log);
+        newest_records_start_where_segments_say(&log);
     }
     assert!(!payloads.is_empty());
 }
