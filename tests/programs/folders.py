@@ -42,15 +42,20 @@ WHOLE = {name(1): ONE, name(2): TWO}
 # Five bytes of a header behind the last committed record: what a power cut left of a write.
 ACCIDENT = {name(1): ONE + record(3)[:5]}
 STRANGE = "refused: not all that is there belongs to the log, as said above"
+AT_4096 = ", the newest at byte 4096"
 NOT_LOOKED_AT = "; not looked at from byte 8192 on"
 
 # what: (files, range, last line, names or whole lines that stand above it)
 FOLDERS = {
     "two segments": (WHOLE, "", "ok 4 records in 2 images", []),
     "segments from 7 on": ({name(7): ONE, name(8): TWO}, "", "ok 4 records in 2 images", []),
-    "all records as a range": (WHOLE, "1 4", "ok 4 records in 2 images", [f"slot 1: {name(2)}, 8192 bytes, 2 records, 3 to 4"]),
+    "all records as a range": (WHOLE, "1 4", "ok 4 records in 2 images", [f"slot 1: {name(2)}, 8192 bytes, 2 records, 3 to 4{AT_4096}"]),
     "a range": (
-        WHOLE, "2 3", up_to(3, "ok 2 records in 2 images"), [f"slot 1: {name(2)}, 8192 bytes, 1 records, 3 to 3; not looked at from byte 4096 on"]),
+        WHOLE, "2 3", up_to(3, "ok 2 records in 2 images"),
+        [f"slot 1: {name(2)}, 8192 bytes, 1 records, 3 to 3, the newest at byte 0; not looked at from byte 4096 on"]),
+    "the newest behind a record of two pages": (
+        {name(1): record(1, bytes(5000)) + record(2)}, "", "ok 2 records in 1 images",
+        [f"slot 0: {name(1)}, 12288 bytes, 2 records, 1 to 2, the newest at byte 8192"]),
     "a range of the first image": (WHOLE, "1 2", up_to(2, "ok 2 records in 2 images"), [f"slot 1: {name(2)}, 8192 bytes, not looked at"]),
     "the empty range": (WHOLE, "0 0", "ok 0 records in 2 images", []),
     "another prefix beside it": ({**WHOLE, "other.0000000009.log": noise(9)}, "", "ok 4 records in 2 images", []),
@@ -76,7 +81,9 @@ FOLDERS = {
     "random bytes": ({name(1): noise(5000)}, "", refused(20), [name(1)]),
     "other random bytes": ({name(1): noise(5000, 2)}, "", refused(18), [name(1)]),
     "zeros": ({name(1): bytes(5000)}, "", refused(19), [name(1)]),
-    "cut in a header": ({name(1): ONE, name(2): TWO[: PAGE + 9]}, "", refused(17, "1 3"), [name(2)]),
+    "cut in a header": (
+        {name(1): ONE, name(2): TWO[: PAGE + 9]}, "", refused(17, "1 3"),
+        [f"slot 1: {name(2)}, 4105 bytes, 1 records, 3 to 3, the newest at byte 0; refused 17 at byte 4096"]),
     "cut in a payload": ({name(1): ONE, name(2): TWO[: PAGE + 14]}, "", refused(20, "1 3"), [name(2)]),
     "cut in the padding": ({name(1): ONE, name(2): TWO[: PAGE + 15]}, "", "ok 4 records in 2 images", []),
     "cut behind the range": ({name(1): ONE, name(2): TWO[: PAGE + 14]}, "1 3", up_to(3, "ok 3 records in 2 images"), []),
@@ -90,16 +97,17 @@ FOLDERS = {
     "a range that falls": (WHOLE, "3 2", "refused 12 recovering 3 to 2", []),
     "one end is 0": (WHOLE, "0 2", "refused 11 recovering 0 to 2", []),
     "the accident": (
-        ACCIDENT, "1 2", up_to(2, "ok 2 records in 1 images"), [f"slot 0: {name(1)}, 8197 bytes, 2 records, 1 to 2{NOT_LOOKED_AT}"]),
+        ACCIDENT, "1 2", up_to(2, "ok 2 records in 1 images"),
+        [f"slot 0: {name(1)}, 8197 bytes, 2 records, 1 to 2{AT_4096}{NOT_LOOKED_AT}"]),
     "the accident, all records asked for": (
-        ACCIDENT, "", refused(17, "1 2"), [f"slot 0: {name(1)}, 8197 bytes, 2 records, 1 to 2; refused 17 at byte 8192"]),
+        ACCIDENT, "", refused(17, "1 2"), [f"slot 0: {name(1)}, 8197 bytes, 2 records, 1 to 2{AT_4096}; refused 17 at byte 8192"]),
     "the accident, and E is not there": (ACCIDENT, "1 3", refused(17), [name(1)]),
     "the accident, and S is not there": ({name(1): TWO + record(5)[:5]}, "2 4", "refused 21 recovering 2 to 4", []),
     "one byte of a header behind E": ({name(1): ONE + record(3)[:1]}, "1 2", up_to(2, "ok 2 records in 1 images"), []),
     "eleven bytes of a header behind E": ({name(1): ONE + record(3)[:11]}, "1 2", up_to(2, "ok 2 records in 1 images"), []),
     "random bytes behind E": (
         {name(1): ONE + noise(5000)}, "1 2", up_to(2, "ok 2 records in 1 images"),
-        [f"slot 0: {name(1)}, 13192 bytes, 2 records, 1 to 2{NOT_LOOKED_AT}"]),
+        [f"slot 0: {name(1)}, 13192 bytes, 2 records, 1 to 2{AT_4096}{NOT_LOOKED_AT}"]),
     "random bytes in a later image": (
         {name(1): ONE, name(2): noise(5000)}, "1 2", up_to(2, "ok 2 records in 2 images"), [f"slot 1: {name(2)}, 5000 bytes, not looked at"]),
     "an empty image behind E, then a full one": (

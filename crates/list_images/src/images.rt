@@ -11,14 +11,15 @@ use walk::Step;
 
 const LAST_ID: u64 = 18446744073709551615;
 
-// What the walk over an image, or over all, found: document 01's number of the first fault, and the ids before it. `at` is where it ended;
-// `stopped` says that it ended at E's record, with bytes behind it.
+// What the walk over an image, or over all, found: document 01's number of the first fault, and the ids before it. `newest` is where the
+// last record starts in its image, `at` where the walk ended; `stopped` says that it ended at E's record, with bytes behind it.
 pub(crate) struct Walked {
     pub(crate) refusal: u32,
     pub(crate) at: u64,
     pub(crate) records: u64,
     pub(crate) first: u64,
     pub(crate) last: u64,
+    pub(crate) newest: u64,
     pub(crate) stopped: bool,
 }
 
@@ -65,6 +66,7 @@ fn begun(number: u32) -> Progress {
         records: 0,
         first: 0,
         last: 0,
+        newest: 0,
         stopped: false,
     };
     let scan = walk::start();
@@ -84,6 +86,7 @@ fn found(number: u32, scan: Scan, size: u64) -> Walked {
         },
         first: scan.min,
         last: scan.max,
+        newest: scan.newest_at,
         stopped: scan.found_e & (scan.pos < size),
     }
 }
@@ -130,6 +133,7 @@ fn say_seen(walked: Walked) {
     if walked.records != 0 {
         named(b",", walked.first);
         named(b" to", walked.last);
+        named(b", the newest at byte", walked.newest);
     }
     if walked.refusal != 0 {
         named(b"; refused", walked.refusal as u64);
@@ -185,6 +189,11 @@ fn joined(all: Walked, one: Walked) -> Walked {
             all.first
         },
         last: if one.records == 0 { all.last } else { one.last },
+        newest: if one.records == 0 {
+            all.newest
+        } else {
+            one.newest
+        },
         stopped: all.stopped | one.stopped,
     }
 }

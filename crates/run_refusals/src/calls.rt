@@ -14,6 +14,7 @@ fn made_up(segment: u32, record: u64) -> Log {
         size: 4096,
         min: record,
         max: record,
+        newest_at: 0,
     };
     Log {
         k: 2,
@@ -88,11 +89,19 @@ pub(crate) fn prunes() -> bool {
         9,
         b"prune below live start",
     );
+    // the id of record 2, which is its segment's newest
+    area[4100] = 9;
+    let newest = met(
+        prune_recent(log, &mut area, 2),
+        10,
+        b"cut not found: another id at newest_at",
+    );
+    // the length of record 1, which is not
     area[3] = 255;
     let cut = met(
         prune_recent(log, &mut area, 1),
         10,
         b"cut not found: short header, length above 2^30, a payload that ends past the size, or end of image first",
     );
-    above & below & cut
+    above & below & newest & cut
 }

@@ -1,4 +1,5 @@
-// Every refusal number of document 01 but 3, each from a small input that meets it; a line each, with document 01's words.
+// Every refusal number of document 01 but 3, each from a small input that meets it; a line each, with document 01's words. 10 has a line
+// more, in document 02's words: a cut at a segment's newest record, which is not walked.
 // 3 is met by payloads above 2^30 bytes, which are no locals: the comparison lends them (oracle/src/logs.rs).
 mod calls;
 mod deltas;
