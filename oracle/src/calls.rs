@@ -14,7 +14,7 @@ pub struct Shape {
     pub m: u64,
 }
 
-pub const NO_SEGMENT: Segment = Segment { id: 0, slot: 0, size: 0, min: 0, max: 0 };
+pub const NO_SEGMENT: Segment = Segment { id: 0, slot: 0, size: 0, min: 0, max: 0, newest_at: 0 };
 pub const NO_LOG: Log = Log { slots: 0, capacity: 0, soft_size: 0, start_live: 0, end_live: 0, count: 0, segments: [NO_SEGMENT; 64] };
 pub const NO_PART: Part = Part { refusal: 0, reserved: 0, at: 0, length: 0 };
 pub const NO_WRITTEN: Written = Written { refusal: 0, reserved: 0, length: 0 };

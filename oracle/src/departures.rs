@@ -33,6 +33,7 @@ departures! {
     PRUNE_BELOW_START "prune-below-start" "9 of prune recent: the Rust has no such test; it deletes, then cuts there or fails";
     CUT_NOT_FOUND "cut-not-found" "10: the Rust fails with its writer dropped and later segments deleted";
     CUT_LENGTHENS "cut-lengthens" "10, the payload of the record looked for passes the size: the Rust lengthens the file and accepts";
+    CUT_AT_NEWEST "cut-at-newest" "a segment's max: ours looks at its header alone, the Rust searches from the front and may stop earlier";
     RANGE_ORDER "range-order" "12: the Rust has no such test";
     EMPTY_BETWEEN "empty-between" "16: the Rust reads on after an empty segment";
     SEQUENCE "sequence" "19: the Rust tests the sequence inside one segment only, takes record id 0, and its ids wrap";

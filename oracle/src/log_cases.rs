@@ -24,7 +24,8 @@ pub struct Setting {
     pub first_appends: u64,
 }
 
-/// Now and then all 64 slots, taken one after the other; or slots in which offsets and lengths pass 16 bits, with many records.
+/// Now and then all 64 slots, taken one after the other; or slots in which offsets and lengths pass 16 bits, with many records; or several
+/// segments of several records.
 pub fn setting(rng: &mut Rng) -> Setting {
     match rng.below(300) {
         0 => {
@@ -36,6 +37,10 @@ pub fn setting(rng: &mut Rng) -> Setting {
             let c = PAGE * rng.pick_number(&[64, 128, 512]);
             let shape = Shape { k: rng.range(2, 3), c, m: rng.pick_number(&[c, c / 2, 65_536]) };
             Setting { shape, first_appends: rng.pick_number(&[0, 0, 20, 90]) }
+        }
+        3..=22 => {
+            let c = PAGE * rng.pick_number(&[4, 8]);
+            Setting { shape: Shape { k: rng.range(2, 4), c, m: c / 2 }, first_appends: rng.range(4, 9) }
         }
         _ => Setting { shape: shape(rng), first_appends: 0 },
     }

@@ -1,6 +1,6 @@
-//! A small model of document 01's log, its recovery as document 02's Ask 1 has it: what append, the prunes and recovery answer, and what
-//! stands in the area and the index after them. Ours is held to it on every call. A refusal names its row of docs/DIFFERENCES.md where the
-//! original has no such test at that place.
+//! A small model of document 01's log, its recovery as document 02's Ask 1 has it and its newest records as Ask 8 does: what append, the
+//! prunes and recovery answer, and what stands in the area and the index after them. Ours is held to it on every call. A refusal names its
+//! row of docs/DIFFERENCES.md where the original has no such test at that place.
 
 use crate::calls::{Shape, NO_LOG, NO_SEGMENT};
 use crate::departures::*;
@@ -63,9 +63,15 @@ pub fn well_shaped(log: &Log, area_length: usize) -> bool {
         let (slot, size) = (segment.slot as u64, segment.size);
         segment.id != 0 && slot < log.slots && (1..=log.capacity).contains(&size) && 1 <= segment.min && segment.min <= segment.max
     };
+    // "This offset is a multiple of 4096 and its 12 header bytes fit below the size."
+    let newest_fits = |segment: &Segment| {
+        let header_end = segment.newest_at as u128 + HEADER as u128;
+        segment.newest_at % PAGE == 0 && header_end <= segment.size as u128
+    };
     let follows = |pair: &[Segment]| pair[0].id.checked_add(1) == Some(pair[1].id) && pair[0].max.checked_add(1) == Some(pair[1].min);
     let slots_distinct = (1..used.len()).all(|at| used[..at].iter().all(|other| other.slot != used[at].slot));
     used.iter().all(alone_fine)
+        && used.iter().all(newest_fits)
         && used.windows(2).all(follows)
         && slots_distinct
         && last.size % PAGE == 0
@@ -103,7 +109,7 @@ pub fn append(log: &Log, area: &mut [u8], payload: &[u8]) -> Result<Log, Refusal
         let free = (0..log.slots as u32).find(|slot| listed(log).iter().all(|segment| segment.slot != *slot));
         match free {
             None => return refuse_alone(6, &MEMORY),
-            Some(slot) => next.segments[log.count as usize] = Segment { id: last_id + 1, slot, size: 0, min: id, max: id },
+            Some(slot) => next.segments[log.count as usize] = Segment { id: last_id + 1, slot, min: id, ..NO_SEGMENT },
         }
         next.count += 1;
     }
@@ -118,6 +124,7 @@ pub fn append(log: &Log, area: &mut [u8], payload: &[u8]) -> Result<Log, Refusal
     bytes[..4].copy_from_slice(&(payload.len() as u32).to_le_bytes());
     bytes[4..12].copy_from_slice(&id.to_le_bytes());
     bytes[12..12 + payload.len()].copy_from_slice(payload);
+    head.newest_at = head.size;
     head.size += record;
     head.max = id;
     next.end_live = id;
@@ -161,31 +168,44 @@ pub fn prune_recent(log: &Log, area: &mut [u8], new_end: u64) -> Result<Log, Ref
     let mut segments = listed(log)[..kept].to_vec();
     let head = &mut segments[kept - 1];
     let start = (head.slot as u64 * log.capacity) as usize;
-    let end = cut(&area[start..start + head.size as usize], new_end)?;
-    pad(area, start, head.size, end);
-    head.size = end;
+    let image = &area[start..start + head.size as usize];
+    // "A cut at a segment's max looks only at that header."
+    let at = if head.max == new_end { head.newest_at } else { found(image, new_end)? };
+    let (id, end) = whole_record(image, at)?;
+    if id != new_end {
+        return refuse_alone(10, &CUT_NOT_FOUND);
+    }
+    pad(area, start, head.size, padded(end));
+    head.size = padded(end);
     head.max = new_end;
+    head.newest_at = at;
     Ok(with_segments(log, &segments, log.start_live, new_end))
 }
 
-/// The padded end of the first record with this id, or 10.
-fn cut(image: &[u8], id: u64) -> Result<u64, Refusal> {
+/// Where the first record with this id stands, or 10.
+fn found(image: &[u8], wanted: u64) -> Result<u64, Refusal> {
     let mut at = 0;
     while at < image.len() as u64 {
-        let (length, record_id) = match header(image, at) {
-            Some(header) if header.0 <= LONGEST_PAYLOAD => header,
-            _ => return refuse_alone(10, &CUT_NOT_FOUND),
-        };
-        let end = at + HEADER + length;
-        if end > image.len() as u64 {
-            return refuse_alone(10, if record_id == id { &CUT_LENGTHENS } else { &CUT_NOT_FOUND });
-        }
-        at = padded(end);
-        if record_id == id {
+        let (id, end) = whole_record(image, at)?;
+        if id == wanted {
             return Ok(at);
         }
+        at = padded(end);
     }
     refuse_alone(10, &CUT_NOT_FOUND)
+}
+
+/// The id of the record at a place and the end of its payload; 10 where it is no whole record.
+fn whole_record(image: &[u8], at: u64) -> Result<(u64, u64), Refusal> {
+    let (length, id) = match header(image, at) {
+        Some(header) if header.0 <= LONGEST_PAYLOAD => header,
+        _ => return refuse_alone(10, &CUT_NOT_FOUND),
+    };
+    let end = at + HEADER + length;
+    if end > image.len() as u64 {
+        return refuse_alone(10, &CUT_NOT_FOUND);
+    }
+    Ok((id, end))
 }
 
 fn header(image: &[u8], at: u64) -> Option<(u64, u64)> {
@@ -211,6 +231,7 @@ struct Scan {
     live: bool,
     min: u64,
     max: u64,
+    newest_at: u64,
     /// The padded end of e's record, where it is here.
     end: Option<u64>,
 }
@@ -254,7 +275,7 @@ pub fn recover(shape: Shape, area: &mut [u8], images: &[Image], s: u64, e: u64, 
     for (image, scan) in sorted.iter().zip(&scans).filter(|(_, scan)| scan.live) {
         let (size, max) = scan.end.map_or((image.size, scan.max), |end| (end, e));
         pad(area, image.slot as usize * shape.c as usize, image.size, size);
-        segments.push(Segment { id: image.id, slot: image.slot, size, min: scan.min, max });
+        segments.push(Segment { id: image.id, slot: image.slot, size, min: scan.min, max, newest_at: scan.newest_at });
     }
     for (words, row) in index.chunks_exact_mut(4).zip(&walk.rows) {
         words.copy_from_slice(row);
@@ -297,7 +318,7 @@ fn walk_images(shape: Shape, area: &[u8], sorted: &[Image], range: (u64, u64), w
 }
 
 fn walk_image(image: &[u8], slot: u32, (s, e): (u64, u64), walk: &mut Walk) -> Result<Scan, Refusal> {
-    let mut scan = Scan { live: false, min: 0, max: 0, end: None };
+    let mut scan = Scan { live: false, min: 0, max: 0, newest_at: 0, end: None };
     let mut at = 0;
     while at < image.len() as u64 && scan.end.is_none() {
         let (length, id) = match header(image, at) {
@@ -326,6 +347,7 @@ fn walk_image(image: &[u8], slot: u32, (s, e): (u64, u64), walk: &mut Walk) -> R
         }
         scan.min = if at == 0 { id } else { scan.min };
         scan.max = id;
+        scan.newest_at = at;
         at = padded(end);
     }
     Ok(scan)

@@ -3,10 +3,11 @@
 
 use crate::calls;
 use crate::causes;
+use crate::cuts::newest_at;
 use crate::departures::*;
 use crate::ffi::{self, Log, Segment};
 use crate::lent::Lent;
-use crate::log_cases::{damage_header, ids_in, payload_length, record_id, setting, small_length, SegmentFile, Setting};
+use crate::log_cases::{payload_length, record_id, setting, small_length, SegmentFile, Setting};
 use crate::log_model::{self as model, listed, Refusal};
 use crate::original_log::{self, Folder, OriginalLog, FILE_MISSING, NO_SEGMENT_NAME, PREFIX};
 use crate::rng::Rng;
@@ -31,7 +32,7 @@ pub enum Step {
     Append { length: usize },
     PruneOldest(u64),
     PruneRecent(u64),
-    Altered { segment: u32 },
+    Altered { segment: u32, size: usize },
     Recover { how: &'static str, s: u64, e: u64, images: Vec<ffi::Image>, index_words: usize },
     Reopen,
     LogValue,
@@ -59,6 +60,8 @@ pub struct History<'a> {
     /// The area as document 01 has it.
     pub model_area: Vec<u8>,
     pub original: OriginalLog,
+    /// The segment whose bytes are damaged now.
+    pub altered: Option<u32>,
 }
 
 impl<'a> History<'a> {
@@ -71,7 +74,7 @@ impl<'a> History<'a> {
         folders[0].clear();
         let opened = original_log::open(&folders[0], shape.m, 0, 0);
         let original = opened.log.unwrap_or_else(|number| panic!("the original does not open an empty folder: {}", number));
-        let mut history = History { table, folders, rng, seed, steps: Vec::new(), log, area, model_area, original };
+        let mut history = History { table, folders, rng, seed, steps: Vec::new(), log, area, model_area, original, altered: None };
         if log != model::empty_log(shape) {
             history.differs("a new log is not the empty one".to_string());
             return;
@@ -96,15 +99,16 @@ impl<'a> History<'a> {
 
     fn step(&mut self) -> After {
         match self.rng.below(100) {
-            0..=44 => self.append(),
-            45..=49 => self.recover_around_e(),
-            50..=57 => self.prune_oldest(),
-            58..=67 => self.prune_recent(),
-            68..=70 => self.prune_recent_over_altered_bytes(),
-            71..=76 => self.recover_in_place(),
-            77..=80 => self.recover_crossed(),
-            81..=93 => self.recover_damaged(),
-            94 => self.any_log_value(),
+            0..=38 => self.append(),
+            39..=42 => self.prune_recent_around_the_newest(),
+            43..=45 => self.any_log_value(),
+            46..=50 => self.recover_around_e(),
+            51..=58 => self.prune_oldest(),
+            59..=68 => self.prune_recent(),
+            69..=71 => self.prune_recent_over_altered_bytes(),
+            72..=77 => self.recover_in_place(),
+            78..=81 => self.recover_crossed(),
+            82..=94 => self.recover_damaged(),
             95 => self.any_shape(),
             96..=98 => self.any_row(),
             _ => self.odd_names(),
@@ -155,12 +159,25 @@ impl<'a> History<'a> {
         if self.folders[0].file_count() != ours.len() {
             return Some("the original's folder holds other files too".to_string());
         }
-        let same_bytes = |segment: &&Segment| self.folders[0].read(segment.id).as_deref() == Some(self.our_bytes(segment));
-        let other = listed(&self.log).iter().find(|segment| !same_bytes(segment));
-        other.map(|segment| format!("the original's segment {} has other bytes", segment.id))
+        listed(&self.log).iter().find_map(|segment| self.segment_differs(segment))
     }
 
-    fn our_bytes(&self, segment: &Segment) -> &[u8] {
+    /// What differs between the original's file of a segment and its slot, or in where its newest record begins.
+    fn segment_differs(&self, segment: &Segment) -> Option<String> {
+        let bytes = self.folders[0].read(segment.id).unwrap_or_default();
+        if bytes != self.our_bytes(segment) {
+            return Some(format!("the original's segment {} has other bytes", segment.id));
+        }
+        let newest = newest_at(&bytes, segment.max);
+        // Of a damaged file that was not cut just now, its headers tell nothing.
+        let untold = self.altered == Some(segment.id) && segment.max != self.log.end_live;
+        if newest != Some(segment.newest_at) && !untold {
+            return Some(format!("in the original's segment {} record {} stands at {:?}", segment.id, segment.max, newest));
+        }
+        None
+    }
+
+    pub fn our_bytes(&self, segment: &Segment) -> &[u8] {
         let at = segment.slot as usize * self.log.capacity as usize;
         &self.area.content()[at..at + segment.size as usize]
     }
@@ -172,7 +189,7 @@ impl<'a> History<'a> {
     }
 
     /// Takes our answer where it is document 01's, with every lent byte; gives back what differs else.
-    fn take(&mut self, refusal: u32, log: Log, expected: &Result<Log, Refusal>) -> Option<String> {
+    pub fn take(&mut self, refusal: u32, log: Log, expected: &Result<Log, Refusal>) -> Option<String> {
         let expected = match expected {
             Ok(next) => (0, *next),
             Err(refusal) => (refusal.number, self.log),
@@ -244,7 +261,7 @@ impl<'a> History<'a> {
         }
     }
 
-    fn some_id(&mut self) -> u64 {
+    pub fn some_id(&mut self) -> u64 {
         let borders: Vec<u64> = listed(&self.log).iter().flat_map(|segment| [segment.min, segment.max]).collect();
         record_id(&mut self.rng, self.log.start_live, self.log.end_live, &borders)
     }
@@ -265,58 +282,6 @@ impl<'a> History<'a> {
             },
             (_, originals) => self.differs(format!("prune oldest: ours {}, the original {:?}", answer.refusal, originals)),
         }
-    }
-
-    fn prune_recent(&mut self) -> After {
-        let new_end = self.some_id();
-        self.steps.push(Step::PruneRecent(new_end));
-        let reaching = listed(&self.log).iter().filter(|segment| segment.min <= new_end).last();
-        let head = reaching.or_else(|| listed(&self.log).first()).copied();
-        let names_it = head.map_or(false, |head| ids_in(self.our_bytes(&head)).contains(&new_end));
-        let expected = model::prune_recent(&self.log, &mut self.model_area, new_end);
-        let answer = calls::prune_recent(&self.log, self.area.content_mut(), new_end);
-        if let Some(what) = self.take(answer.refusal | answer.reserved, answer.log, &expected) {
-            return self.differs(what);
-        }
-        let range = self.original.live_range();
-        let originals = self.original.prune_recent(new_end);
-        let (number, departure) = match (expected, originals) {
-            (Ok(_), Ok(())) => return self.alike("prune recent: accepted"),
-            (Ok(_), Err(number)) => return self.differs(format!("prune recent: the original refuses with {}", number)),
-            (Err(Refusal { number, departure }), _) => (number, departure.filter(|_| causes::of_prune(number, range, new_end))),
-        };
-        if originals.is_err() {
-            let class = format!("prune recent: {}, the Rust fails with {}, its writer dropped", number, originals.unwrap_err());
-            return if self.original.head_size().is_none() {
-                self.departs(&class, departure, After::Apart)
-            } else {
-                self.differs("the original fails and keeps its writer".to_string())
-            };
-        }
-        let longer = head.map_or(false, |head| self.original.head_size() > Some(head.size));
-        match number {
-            8 | 9 if names_it => self.departs(&format!("prune recent: {}, the Rust accepts", number), departure, After::Apart),
-            10 if longer => self.departs("prune recent: 10, the Rust lengthens the file", departure, After::Apart),
-            _ => self.differs(format!("prune recent: ours {}, the original accepts", number)),
-        }
-    }
-
-    /// Damages a header in the area and in the original's file alike, and prunes.
-    fn prune_recent_over_altered_bytes(&mut self) -> After {
-        let files = self.our_files();
-        if files.is_empty() {
-            return self.prune_recent();
-        }
-        let place = self.rng.below(files.len() as u64) as usize;
-        let (id, mut bytes) = (files[place].id, files[place].bytes.clone());
-        damage_header(&mut self.rng, &mut bytes);
-        let at = self.log.segments[place].slot as usize * self.log.capacity as usize;
-        self.area.content_mut()[at..at + bytes.len()].copy_from_slice(&bytes);
-        self.model_area[at..at + bytes.len()].copy_from_slice(&bytes);
-        self.folders[0].write(id, &bytes);
-        self.steps.push(Step::Altered { segment: id });
-        self.prune_recent();
-        After::Over
     }
 
     /// The original opens our images.

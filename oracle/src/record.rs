@@ -6,6 +6,7 @@ use crate::delta_cases::{draft, input, usual_draft};
 use crate::delta_model::{decode, sorted};
 use crate::name_cases::{id_of, mutated_case, PREFIXES};
 use crate::original;
+use crate::record_cuts;
 use crate::record_images;
 use crate::record_logs;
 use crate::rng::Rng;
@@ -55,6 +56,7 @@ pub fn write(path: &str, seed: u64) -> std::io::Result<()> {
     sample.lines.sort_by_key(|line| line.as_bytes()[0]);
     sample.lines.extend(record_logs::lines(seed));
     sample.lines.extend(record_images::lines(seed));
+    sample.lines.extend(record_cuts::lines(seed));
     let mut file = std::fs::File::create(path)?;
     sample.lines.iter().try_for_each(|line| writeln!(file, "{}", line))
 }

@@ -1,16 +1,16 @@
 //! Histories for the recorded sample: the original's log on a folder, its answer and its state after each call, a line each.
-//! The model of document 01 plays along, to name departures and to bring the original back where it went on alone. Some histories end
-//! with a prune over altered bytes.
+//! The model of document 01 plays along, to name departures and to bring the original back where it went on alone. A history ends with a
+//! prune over altered bytes (record_cuts.rs).
 
 use crate::calls::Shape;
+use crate::cuts::newest_at;
 use crate::ffi::{Image, Log, Segment};
-use crate::log_cases::{damage_header, payload_length, range, record_id, shape, SegmentFile};
+use crate::log_cases::{payload_length, range, record_id, shape, SegmentFile};
 use crate::log_model::{self as model, listed, Refusal};
 use crate::original_log::{self, Folder, Opened, OriginalLog};
 use crate::rng::Rng;
-use crate::table::hex;
 
-const HISTORIES: u64 = 120;
+const HISTORIES: u64 = 100;
 /// After how many histories one meets a payload above 2^30 bytes.
 const TOO_LONG_EVERY: u64 = 20;
 /// The largest area of a recorded history.
@@ -39,10 +39,10 @@ pub fn lines(seed: u64) -> Vec<String> {
 pub const NO_STATE: &str = "0000000000000000 0000000000000000 -";
 
 pub struct Recorder<'a> {
-    folder: &'a Folder,
-    log: Log,
-    area: Vec<u8>,
-    original: OriginalLog,
+    pub folder: &'a Folder,
+    pub log: Log,
+    pub area: Vec<u8>,
+    pub original: OriginalLog,
 }
 
 impl<'a> Recorder<'a> {
@@ -67,6 +67,10 @@ impl<'a> Recorder<'a> {
             };
             lines.push(format!("{} {}", line, self.state()));
         }
+    }
+
+    pub fn play_append(&mut self, rng: &mut Rng, lines: &mut Vec<String>) {
+        lines.push(format!("{} {}", self.append(rng), self.state()));
     }
 
     fn some_id(&self, rng: &mut Rng) -> u64 {
@@ -100,29 +104,6 @@ impl<'a> Recorder<'a> {
         let expected = model::prune_recent(&self.log, &mut self.area, new_end);
         let answer = self.original.prune_recent(new_end);
         format!("R {:02} {:016x} {:02}", self.follow(expected), new_end, answer.err().unwrap_or(0))
-    }
-
-    /// One header altered in the area and in the original's file alike, then a cut in that segment, from which the original may not return.
-    fn prune_over_altered_bytes(&mut self, rng: &mut Rng, lines: &mut Vec<String>) {
-        let Some(segment) = listed(&self.log).last().copied() else { return };
-        let start = segment.slot as usize * self.log.capacity as usize;
-        let mut bytes = self.area[start..start + segment.size as usize].to_vec();
-        damage_header(rng, &mut bytes);
-        for (page, (was, is)) in self.area[start..].chunks(4096).zip(bytes.chunks(4096)).enumerate() {
-            if was[..is.len()] != *is {
-                lines.push(format!("B {:08x} {:08x} {}", start + page * 4096, 12, hex(&is[..12])));
-            }
-        }
-        self.area[start..start + bytes.len()].copy_from_slice(&bytes);
-        self.folder.write(segment.id, &bytes);
-        let (new_end, before) = (rng.range(segment.min.max(self.log.start_live), segment.max), self.state());
-        let expected = model::prune_recent(&self.log, &mut self.area, new_end);
-        let answer = self.original.prune_recent(new_end).err().unwrap_or(0);
-        let (departure, state) = match expected {
-            Ok(_) => (0, self.state()),
-            Err(refusal) => (refusal.number, before),
-        };
-        lines.push(format!("R {:02} {:016x} {:02} {}", departure, new_end, answer, state));
     }
 
     fn recover(&mut self, rng: &mut Rng) -> String {
@@ -161,26 +142,43 @@ impl<'a> Recorder<'a> {
         0
     }
 
-    fn reopen(&mut self) {
-        let bytes = |segment: &Segment| {
+    /// The segments of document 01's log, as files.
+    pub fn files(&self) -> Vec<SegmentFile> {
+        let file = |segment: &Segment| {
             let at = segment.slot as usize * self.log.capacity as usize;
-            self.area[at..at + segment.size as usize].to_vec()
+            SegmentFile { id: segment.id, bytes: self.area[at..at + segment.size as usize].to_vec() }
         };
-        let files: Vec<SegmentFile> =
-            listed(&self.log).iter().map(|segment| SegmentFile { id: segment.id, bytes: bytes(segment) }).collect();
-        self.folder.write_all(&files);
+        listed(&self.log).iter().map(file).collect()
+    }
+
+    fn reopen(&mut self) {
+        self.reopen_from(&self.files());
+    }
+
+    pub fn reopen_from(&mut self, files: &[SegmentFile]) {
+        self.folder.write_all(files);
         let opened = original_log::open(self.folder, self.log.soft_size, self.log.start_live, self.log.end_live);
         self.original = opened.log.expect("the original opens what document 01 leaves");
     }
 
-    /// Live range; then for each segment id, size, min, max and the digest of its file.
+    /// Where the newest record of each segment begins in its file, which is not damaged.
+    pub fn newest(&self) -> Vec<u64> {
+        let place = |(id, _, max)| newest_at(&self.folder.read(id)?, max);
+        self.original.segments().into_iter().map(|row| place(row).expect("a segment's newest record")).collect()
+    }
+
     pub fn state(&self) -> String {
+        self.state_with(&self.newest())
+    }
+
+    /// Live range; then for each segment id, size, min, max, where its newest record begins, and the digest of its file.
+    pub fn state_with(&self, newest: &[u64]) -> String {
         let (start, end) = self.original.live_range();
         let mut segments = String::new();
-        for (id, min, max) in self.original.segments() {
+        for ((id, min, max), newest_at) in self.original.segments().into_iter().zip(newest) {
             let bytes = self.folder.read(id).expect("a segment's file");
             let digest = digest(DIGEST_START, &bytes);
-            segments += &format!("{:08x}{:08x}{:016x}{:016x}{:016x}", id, bytes.len(), min, max, digest);
+            segments += &format!("{:08x}{:08x}{:016x}{:016x}{:08x}{:016x}", id, bytes.len(), min, max, newest_at, digest);
         }
         let segments = if segments.is_empty() { "-".to_string() } else { segments };
         format!("{:016x} {:016x} {}", start, end, segments)

@@ -3,6 +3,8 @@
 
 #![allow(dead_code)]
 
+#[path = "wrong_newest.rs"]
+mod newest;
 #[path = "right_calls.rs"]
 mod right;
 
@@ -48,7 +50,8 @@ pub fn append(log: &Log, area: &mut [u8], payload: &[u8]) -> Appended {
     if wrong("append_reads_before_its_payload") && !payload.is_empty() {
         read_outside(payload, true);
     }
-    let answer = right::append(log, area, payload);
+    let mut answer = right::append(&newest::lax(log), area, payload);
+    answer.log = if answer.refusal == 0 { newest::appended(log, answer.log) } else { *log };
     let new_segment = answer.log.count > log.count;
     if answer.refusal == 0 && (wrong("segment_9_is_6") && new_segment && log.count == 8) {
         return refused_append(log, 6);
@@ -69,14 +72,20 @@ pub fn append(log: &Log, area: &mut [u8], payload: &[u8]) -> Appended {
 }
 
 pub fn prune_oldest(log: &Log, area: &mut [u8], new_start_live: u64) -> Logged {
-    right::prune_oldest(log, area, new_start_live)
+    let mut answer = right::prune_oldest(&newest::lax(log), area, new_start_live);
+    answer.log = if answer.refusal == 0 { newest::forgotten(answer.log, "newest_0_after_prune_oldest") } else { *log };
+    answer
 }
 
 pub fn prune_recent(log: &Log, area: &mut [u8], new_end_live: u64) -> Logged {
     if wrong("cut_reads_past_the_area") {
         read_outside(area, false);
     }
-    right::prune_recent(log, area, new_end_live)
+    let mut answer = newest::prune_recent(&newest::lax(log), area, new_end_live);
+    if answer.refusal != 0 {
+        answer.log = *log;
+    }
+    answer
 }
 
 fn refused_recovery(refusal: u32) -> Recovered {
@@ -88,7 +97,8 @@ fn with_one_more(mut answer: Recovered, images: &[Image]) -> Recovered {
     let log = &mut answer.log;
     let head = log.segments[(log.count as usize).saturating_sub(1)];
     if let Some(next) = images.iter().find(|image| log.count > 0 && image.id == head.id + 1 && image.size > 0) {
-        log.segments[log.count as usize] = Segment { id: next.id, slot: next.slot, size: next.size, min: head.max, max: head.max };
+        let Image { id, slot, size } = *next;
+        log.segments[log.count as usize] = Segment { id, slot, size, min: head.max, max: head.max, newest_at: 0 };
         log.count += 1;
     }
     answer
@@ -112,7 +122,10 @@ pub fn recover(shape: Shape, area: &mut [u8], images: &[Image], s: u64, e: u64, 
             return refused_recovery(whole.refusal);
         }
     }
-    let answer = right::recover(shape, area, images, s, e, index);
+    let mut answer = right::recover(shape, area, images, s, e, index);
+    if answer.refusal == 0 {
+        answer.log = newest::recovered(area, images, answer.log);
+    }
     if answer.refusal == 20 && wrong("recovery_stops_before_the_payload_of_e") {
         let before_e = right::recover(shape, area, images, s, e - 1, index);
         return if before_e.refusal == 0 { before_e } else { answer };
@@ -138,11 +151,11 @@ pub fn recover(shape: Shape, area: &mut [u8], images: &[Image], s: u64, e: u64, 
 }
 
 pub fn row_question(log: &Log, area: &[u8], row: [u64; 4]) -> u32 {
-    right::row_question(log, area, row)
+    right::row_question(&newest::lax(log), area, row)
 }
 
 pub fn payload(log: &Log, area: &[u8], row: [u64; 4]) -> Part {
-    let mut part = right::payload(log, area, row);
+    let mut part = right::payload(&newest::lax(log), area, row);
     if wrong("place_at_32_bits") {
         part.at %= 1 << 32;
     }
