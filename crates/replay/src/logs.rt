@@ -1,4 +1,4 @@
-// Lines L, A, O, R and V: histories of a log, with the log and its segments' bytes compared after each call.
+// Lines L, A, O, R, N and V: histories of a log, with the log and its segments' bytes compared after each call.
 use crate::digest;
 use crate::fields;
 use image_rows::Rows;
@@ -31,14 +31,15 @@ pub(crate) fn started(line: &[u8], area: &mut [u8]) -> Turn {
     judged(fresh.refusal == 0, fresh)
 }
 
-// Whether a segment is the one that the 64 digits give: id, size, min, max and the digest of its bytes.
+// Whether a segment is the one that the 72 digits give: id, size, min, max, where its newest record starts, and the digest of its bytes.
 fn segment_same(segment: Segment, image: &[u8], digits: &[u8]) -> bool {
     let id = fields::hex(slices::between(digits, 0, 8)) == segment.id as u64;
     let size = fields::hex(slices::between(digits, 8, 16)) == segment.size;
     let min = fields::hex(slices::between(digits, 16, 32)) == segment.min;
     let max = fields::hex(slices::between(digits, 32, 48)) == segment.max;
-    let bytes = fields::hex(slices::between(digits, 48, 64)) == digest::of(digest::START, image);
-    id & size & min & max & bytes
+    let newest = fields::hex(slices::between(digits, 48, 56)) == segment.newest_at;
+    let bytes = fields::hex(slices::between(digits, 56, 72)) == digest::of(digest::START, image);
+    id & size & min & max & newest & bytes
 }
 
 // Whether the log has as many segments as the word, and these.
@@ -51,10 +52,10 @@ fn segments_same(log: Log, area: &[u8], digits: &[u8]) -> bool {
         }
         let segment = log.segs[i];
         let image = payload::payload(log, area, 0, segment.slot as u64, 0, segment.size);
-        if !segment_same(segment, image, slices::between(digits, at, at + 64)) {
+        if !segment_same(segment, image, slices::between(digits, at, at + 72)) {
             return false;
         }
-        at += 64;
+        at += 72;
         i += 1;
     }
     if at == 0 {
@@ -108,22 +109,28 @@ pub(crate) fn appended(line: &[u8], log: Log, area: &mut [u8], payload: &mut [u8
     }
 }
 
-// The rest of a line of a prune.
-fn pruned(line: &[u8], answer: Logged, area: &[u8]) -> Turn {
+// The rest of a line of a prune, with the answer wanted.
+fn pruned(line: &[u8], answer: Logged, area: &[u8], wanted: u32) -> Turn {
     let same = state_same(answer.log, area, line, 4);
-    judged((answer.refusal == fields::wanted(line, 3)) & same, answer)
+    judged((answer.refusal == wanted) & same, answer)
 }
 
 // O DD id NN STATE
 pub(crate) fn oldest(line: &[u8], log: Log, area: &mut [u8]) -> Turn {
     let answer = seglog_prune::prune_oldest(log, &mut *area, fields::hex(fields::word(line, 2)));
-    pruned(line, answer, area)
+    pruned(line, answer, area, fields::wanted(line, 3))
 }
 
 // R DD id NN STATE
 pub(crate) fn recent(line: &[u8], log: Log, area: &mut [u8]) -> Turn {
     let answer = seglog_prune::prune_recent(log, &mut *area, fields::hex(fields::word(line, 2)));
-    pruned(line, answer, area)
+    pruned(line, answer, area, fields::wanted(line, 3))
+}
+
+// N DD id NN STATE: NN is what the original's search comes to, which does not reach the newest record; ours accepts.
+pub(crate) fn recent_at_newest(line: &[u8], log: Log, area: &mut [u8]) -> Turn {
+    let answer = seglog_prune::prune_recent(log, &mut *area, fields::hex(fields::word(line, 2)));
+    pruned(line, answer, area, 0)
 }
 
 // The digest with one delivered record: its id and its payload.

@@ -12,7 +12,7 @@ use logs::Turn;
 use seglog::Log;
 
 // The kinds of lines, in the order of their counts.
-const KINDS: usize = 12;
+const KINDS: usize = 13;
 
 // One line of the file: where the next begins, its kind, whether the answer was the recorded one, and the log after it.
 struct Replayed {
@@ -41,6 +41,7 @@ fn kind_of(line: &[u8]) -> usize {
         b'B' => 9,
         b'I' => 10,
         b'J' => 11,
+        b'N' => 12,
         _ => KINDS,
     }
 }
@@ -59,6 +60,7 @@ fn call(kind: usize, line: &[u8], log: Log, area: &mut [u8], payload: &mut [u8])
         9 => images::laid(line, log, used, payload),
         10 => images::recovered(line, log, used),
         11 => images::recovered_up_to_e(line, log, used),
+        12 => logs::recent_at_newest(line, log, used),
         _ => logs::recovered(line, log, used),
     }
 }
@@ -123,7 +125,7 @@ fn step(file: i32, at: u64, log: Log, area: &mut [u8], one: &mut [u8], two: &mut
 // Replays line after line; the number of the first that differs, 0 where none does.
 fn replay_all(
     file: i32,
-    counts: &mut [u64; 12],
+    counts: &mut [u64; 13],
     area: &mut [u8],
     one: &mut [u8],
     two: &mut [u8],
@@ -160,14 +162,14 @@ fn number(v: u64) {
 }
 
 // The count of one kind, with its name.
-fn counted(counts: &[u64; 12], i: usize, what: &[u8]) {
+fn counted(counts: &[u64; 13], i: usize, what: &[u8]) {
     if i < KINDS {
         number(counts[i]);
         say(what);
     }
 }
 
-fn report_counts(counts: &[u64; 12]) {
+fn report_counts(counts: &[u64; 13]) {
     counted(counts, 0, b" names written\n");
     counted(counts, 1, b" names parsed\n");
     counted(counts, 2, b" deltas decoded\n");
@@ -180,10 +182,11 @@ fn report_counts(counts: &[u64; 12]) {
     counted(counts, 9, b" pieces of images laid\n");
     counted(counts, 10, b" recoveries from images\n");
     counted(counts, 11, b" recoveries the original refuses behind e\n");
+    counted(counts, 12, b" newest records the original does not reach\n");
 }
 
 // The answers of all kinds; that a history begins is none, and a piece that is laid.
-fn total(counts: &[u64; 12]) -> u64 {
+fn total(counts: &[u64; 13]) -> u64 {
     let mut sum: u64 = 0;
     let mut i: usize = 0;
     while i < KINDS {
@@ -196,7 +199,7 @@ fn total(counts: &[u64; 12]) -> u64 {
 }
 
 fn run(file: i32, payload: &mut [u8]) {
-    let mut counts = [0u64; 12];
+    let mut counts = [0u64; 13];
     let mut area = io::large_buffer();
     let mut two = io::large_buffer();
     let differs = replay_all(file, &mut counts, &mut area, payload, &mut two);

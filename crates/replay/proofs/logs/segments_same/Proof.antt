@@ -1,4 +1,4 @@
--- `replay::logs::segments_same`: 64 digits a segment, 64 segments at most.
+-- `replay::logs::segments_same`: 72 digits a segment, 64 segments at most.
 -- Assumes nothing.
 use Prim.Native.Nat.{_≤_, _-_, _*_}
 use mathlib.Core.Path.{_≡_}
@@ -7,7 +7,7 @@ use Rattle.replay.proofs.logs.segments_same.Statement.{statement}
 use Rattle.replay.proofs.logs.segments_same.Tie as tie
 
 abbrev Inv-loop : tie.InvT-loop
-Inv-loop area digits log at₀ i₀ t9 at i = (i ≤ 64) × (at ≡ 64 * i)
+Inv-loop area digits log at₀ i₀ t9 at i = (i ≤ 64) × (at ≡ 72 * i)
 
 abbrev μ-loop : tie.MeasureT-loop
 μ-loop area digits log at₀ i₀ t9 at i = 64 - i
