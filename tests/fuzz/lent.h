@@ -98,4 +98,19 @@ static inline uint64_t next(input *from, size_t bytes) {
     return number;
 }
 
+/* An area of K slots of this capacity: bytes with no zero among them, so that a written zero shows, and the input's headers over them. Each
+ * has its slot, its page, its shift in the page (2 bytes) and the 12 bytes. */
+static inline void read_area(uint8_t *bytes, size_t length, uint64_t capacity, input *from) {
+    static uint8_t dirty[ROOM];
+    for (size_t at = 0; at < ROOM && !dirty[ROOM - 1]; at++) dirty[at] = 0x80 | at % 113;
+    memcpy(bytes, dirty, length);
+    while (from->left >= 16) {
+        uint64_t slot = next(from, 1), page = next(from, 1), shift = next(from, 2), at = slot * capacity + page * PAGE + shift;
+        for (size_t i = 0; i < 12; i++) {
+            uint8_t byte = next(from, 1);
+            if (at + i < length) bytes[at + i] = byte;
+        }
+    }
+}
+
 #endif

@@ -1,6 +1,6 @@
 /* Fuzz driver for recovery: small K, C and M, made-up image rows and headers; an accepted log must be as good as it says.
  * Input: K, pages of C, M in half pages, rows, index words, flags (3 bytes), s and e (8 each); each row: id (4), slot, unused, size (2);
- * then headers to lay into the area: slot, page, shift in the page (2), the 12 bytes. */
+ * then headers to lay into the area (lent.h). */
 #include "iflughan.h"
 #include "lent.h"
 
@@ -21,20 +21,6 @@ static void read_rows(asked *it, input *from) {
     }
 }
 
-/* Bytes with no zero among them, so that a written zero shows; headers over them. */
-static void read_area(asked *it, input *from) {
-    static uint8_t dirty[ROOM];
-    for (size_t at = 0; at < ROOM && !dirty[ROOM - 1]; at++) dirty[at] = 0x80 | at % 113;
-    memcpy(it->bytes, dirty, it->area_length);
-    while (from->left >= 16) {
-        uint64_t slot = next(from, 1), page = next(from, 1), shift = next(from, 2), at = slot * it->c + page * PAGE + shift;
-        for (size_t i = 0; i < 12; i++) {
-            uint8_t byte = next(from, 1);
-            if (at + i < it->area_length) it->bytes[at + i] = byte;
-        }
-    }
-}
-
 static void read_asked(asked *it, input from) {
     uint64_t k = next(&from, 1), pages = next(&from, 1), halves = next(&from, 1);
     it->k = k == 255 ? 0 : k % 5 + 1;
@@ -48,7 +34,7 @@ static void read_asked(asked *it, input from) {
     it->s = next(&from, 8);
     it->e = next(&from, 8);
     read_rows(it, &from);
-    read_area(it, &from);
+    read_area(it->bytes, it->area_length, it->c, &from);
 }
 
 static lent area, rows, index_words;
@@ -90,6 +76,15 @@ static void rows_good(const asked *it, const iflughan_recovered *answer) {
         HOLD(row[1] < it->k && row[2] >= 12 && row[2] + row[3] <= it->c);
     }
     HOLD(unchanged(&area));
+}
+
+/* The newest record of each segment starts where the segment says, twelve bytes before its row's payload. */
+static void newest_good(const asked *it, const iflughan_log *log) {
+    for (uint64_t i = 0; i < log->count; i++) {
+        const iflughan_segment *segment = &log->segments[i];
+        const uint64_t *row = (const uint64_t *)index_words.at + 4 * (segment->max - it->s);
+        HOLD(row[0] == segment->max && row[1] == segment->slot && row[2] == segment->newest_at + IFLUGHAN_HEADER_LENGTH);
+    }
 }
 
 /* Recovering again from a log's own images gives the same log and the same rows. */
@@ -158,6 +153,7 @@ int LLVMFuzzerTestOneInput(const uint8_t *data, size_t size) {
     }
     only_padding_written(&it, it.bytes, &answer.log);
     rows_good(&it, &answer);
+    newest_good(&it, &answer.log);
     mark(0, 8 * answer.log.count + answer.rows);
     log_good(&it, &answer);
     if (it.s) behind_unseen(&it, &answer);

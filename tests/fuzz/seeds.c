@@ -1,5 +1,5 @@
-/* Writes the first inputs of the fuzz drivers, one file each: a few images that are recovered, deltas and names that are accepted.
- * The folders recover, decode, encode and parse must be there, in the folder it is run in. */
+/* Writes the first inputs of the fuzz drivers, one file each: a few images that are recovered, logs that are cut, deltas and names that are
+ * accepted. The folders recover, cut, decode, encode and parse must be there, in the folder it is run in. */
 #include "iflughan.h"
 #include "lent.h"
 
@@ -22,6 +22,25 @@ static void images(const char *file, uint64_t first, uint64_t wanted, uint16_t l
     for (uint8_t i = 0; i < 4; i++, at += 16) {
         uint64_t id = first + i;
         memcpy(at, (uint8_t[]){2 - i / 2, i % 2, 0, 0}, 4);
+        memcpy(at + 4, &length, 4);
+        memcpy(at + 8, &id, 8);
+    }
+    save(file, bytes, sizeof bytes);
+}
+
+/* Two segments of three records, which take one page, two and one, ids from `first` on; how the cut is chosen, what may be wrong, and the
+ * first segment's size. */
+static void log_to_cut(const char *file, uint64_t first, uint8_t choice, uint8_t wrong, uint16_t first_size) {
+    uint8_t bytes[15 + 2 * 6 + 6 * 16] = {2, 3, 2, 1, choice, wrong}, *at = bytes + 15;
+    memcpy(bytes + 6, &first, 8);
+    for (uint8_t i = 0; i < 2; i++, at += 6) {
+        uint16_t size = i ? 16384 : first_size;
+        memcpy(at, (uint8_t[]){2, 3, 0, 0, size & 255, size >> 8}, 6);
+    }
+    for (uint8_t i = 0; i < 6; i++, at += 16) {
+        uint32_t length = i % 3 == 1 ? 5000 : 3;
+        uint64_t id = first + i;
+        memcpy(at, (uint8_t[]){1 + i / 3, i % 3 == 2 ? 3 : i % 3, 0, 0}, 4);
         memcpy(at + 4, &length, 4);
         memcpy(at + 8, &id, 8);
     }
@@ -66,6 +85,14 @@ int main(void) {
     images("recover/torn-next-image", 6, 1, 5, 3);
     images("recover/torn-before-e", 6, 3, 4096 + 5, 3);
     images("recover/last-ids", UINT64_MAX - 3, 3, 8192, 4084);
+    log_to_cut("cut/newest", 1, 3, 0, 16384);
+    log_to_cut("cut/newest-of-the-first", 1, 1, 0, 16384);
+    log_to_cut("cut/walked", 1, 8, 0, 16384);
+    log_to_cut("cut/odd-size", 1, 1, 0, 12288 + 15);
+    log_to_cut("cut/short-size", 1, 1, 0, 12288 + 14);
+    log_to_cut("cut/header-at-the-size", 1, 1, 192 + 3, 12288 + 12);
+    log_to_cut("cut/header-past-the-size", 1, 1, 192 + 3, 12288 + 11);
+    log_to_cut("cut/last-ids", UINT64_MAX - 5, 3, 0, 16384);
     delta("decode/empty", 0);
     delta("decode/two", 2);
     delta("decode/many", 40);

@@ -1,5 +1,6 @@
-//! Refusals of the log's functions that no history reaches: made-up log values (2, 4, 5), sizes (1, 3, 7), images damaged under a cut (10);
-//! prunes outside a live range (8, 9); and the one write of prune recent, the padding that was missing.
+//! Refusals of the log's functions that no history reaches: made-up log values (2, 4, 5), sizes (1, 3, 7), images damaged under a cut that
+//! is walked (10); prunes outside a live range (8, 9); and the one write of prune recent, the padding that was missing. Cuts at a segment's
+//! newest record: cases_newest.rs.
 
 use crate::archive::{hold, Archive, Checked, NO_LOG, NO_SEGMENT};
 use crate::ffi::{Log, Segment};
@@ -27,8 +28,8 @@ pub fn four_records() -> (Log, Vec<u8>) {
         put_header(&mut area, slot, at, 3, id);
     }
     let mut log = Log { slots: SLOTS, capacity: CAPACITY, soft_size: CAPACITY, start_live: 1, end_live: 4, count: 2, ..NO_LOG };
-    log.segments[0] = Segment { id: 1, slot: 1, size: 8192, min: 1, max: 2 };
-    log.segments[1] = Segment { id: 2, slot: 0, size: 8192, min: 3, max: 4 };
+    log.segments[0] = Segment { id: 1, slot: 1, size: 8192, min: 1, max: 2, newest_at: 4096 };
+    log.segments[1] = Segment { id: 2, slot: 0, size: 8192, min: 3, max: 4, newest_at: 4096 };
     (log, area)
 }
 
@@ -112,7 +113,7 @@ fn not_well_shaped(archive: &mut Archive) -> Checked<()> {
     refused_with_2(archive, "an area that is one byte short", &good, &area[1..])
 }
 
-fn refused_with_2(archive: &mut Archive, case: &str, log: &Log, area: &[u8]) -> Checked<()> {
+pub fn refused_with_2(archive: &mut Archive, case: &str, log: &Log, area: &[u8]) -> Checked<()> {
     same(case, archive.append(log, area, b"abc")?.0.refusal, 2)?;
     for id in [0, 2, 9] {
         same(case, archive.prune_oldest(log, area, id)?.refusal, 2)?;
@@ -129,7 +130,7 @@ fn appends(archive: &mut Archive) -> Checked<()> {
     same("payload 2^30", archive.append_lent(&full, &area, &at_the_limit)?.0.refusal, 7)?;
     same("payload 2^30 + 1", archive.append_lent(&full, &area, &above_the_limit)?.0.refusal, 3)?;
     let mut at_the_end = Log { start_live: u64::MAX, end_live: u64::MAX, count: 1, ..full };
-    at_the_end.segments[0] = Segment { id: u32::MAX, slot: 1, size: 8192, min: u64::MAX, max: u64::MAX };
+    at_the_end.segments[0] = Segment { id: u32::MAX, slot: 1, size: 8192, min: u64::MAX, max: u64::MAX, newest_at: 0 };
     at_the_end.segments[1] = NO_SEGMENT;
     same("3 before 4", archive.append_lent(&at_the_end, &area, &above_the_limit)?.0.refusal, 3)?;
     same("live end 2^64 - 1", archive.append(&at_the_end, &area, b"")?.0.refusal, 4)?;
@@ -172,26 +173,39 @@ const CUTS: [(&str, u64, u32, fn(&mut [u8])); 11] = [
     ("no sequence is tested", 8192, 0, |area| put_header(area, 1, 0, 3, 0)),
 ];
 
+/// The four records in a log that says of the first segment, of this size, that it ends with a record 3: so a cut to 2 is walked.
+fn walked_to_2(size: u64) -> (Log, Vec<u8>) {
+    let (mut log, area) = four_records();
+    log.segments[0] = Segment { size, max: 3, newest_at: 0, ..log.segments[0] };
+    log.segments[1] = Segment { min: 4, max: 5, ..log.segments[1] };
+    (Log { end_live: 5, ..log }, area)
+}
+
+/// Record 2 ends the log, by the place where the walk found it.
+fn cut_at_2(log: &Log) -> Log {
+    let mut cut = Log { end_live: 2, count: 1, ..*log };
+    cut.segments[0] = Segment { size: 8192, max: 2, newest_at: 4096, ..log.segments[0] };
+    cut.segments[1] = NO_SEGMENT;
+    cut
+}
+
 fn cuts(archive: &mut Archive) -> Checked<()> {
     for (case, size, number, damage) in CUTS {
-        let (mut log, mut area) = four_records();
-        log.segments[0].size = size;
+        let (log, mut area) = walked_to_2(size);
         damage(&mut area);
-        same(case, archive.prune_recent(&log, &area, 2)?.0.refusal, number)?;
+        let (answer, _) = archive.prune_recent(&log, &area, 2)?;
+        same(case, answer.refusal, number)?;
+        hold(number > 0 || answer.log == cut_at_2(&log), &format!("case {case}: another log"))?;
     }
     Ok(())
 }
 
 /// The kept record's missing padding is written as zeros; padding that is there stays dirty.
 fn missing_padding(archive: &mut Archive) -> Checked<()> {
-    let (mut log, area) = four_records();
-    log.segments[0].size = 4096 + 100;
+    let (log, area) = walked_to_2(4096 + 100);
     let (answer, after) = archive.prune_recent(&log, &area, 2)?;
-    let mut expected = Log { end_live: 2, count: 1, ..log };
-    expected.segments[0].size = 8192;
-    expected.segments[1] = NO_SEGMENT;
     let mut bytes = area;
     bytes[8192 + 4096 + 100..16384].fill(0);
-    hold(answer.refusal == 0 && answer.log == expected, "missing padding: another log")?;
+    hold(answer.refusal == 0 && answer.log == cut_at_2(&log), "missing padding: another log")?;
     hold(after == bytes, "missing padding: other bytes")
 }

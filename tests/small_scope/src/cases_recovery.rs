@@ -173,8 +173,8 @@ fn missing_padding(archive: &mut Archive) -> Checked<()> {
     asked.words = 9;
     let (number, log, area, index) = ask(archive, &asked)?;
     let mut expected = Log { slots: 4, capacity: CAPACITY, soft_size: CAPACITY, start_live: 7, end_live: 8, count: 2, ..NO_LOG };
-    expected.segments[0] = Segment { id: 2, slot: 2, size: 4096 + 15, min: 6, max: 7 };
-    expected.segments[1] = Segment { id: 3, slot: 0, size: 4096, min: 8, max: 8 };
+    expected.segments[0] = Segment { id: 2, slot: 2, size: 4096 + 15, min: 6, max: 7, newest_at: 4096 };
+    expected.segments[1] = Segment { id: 3, slot: 0, size: 4096, min: 8, max: 8, newest_at: 0 };
     let mut bytes = asked.area;
     bytes[20..4096].fill(0);
     hold(number == 0 && log == expected, "missing padding: another log")?;

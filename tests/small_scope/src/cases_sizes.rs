@@ -31,7 +31,7 @@ fn specimen_4(archive: &mut Archive) -> Checked<()> {
     let mut payload = Lent::zeros(LONGEST, 0x3c);
     (payload.content_mut()[0], payload.content_mut()[LONGEST - 1]) = (7, 9);
     let answer = archive.append_to(&log, &mut area, &payload)?;
-    let head = Segment { id: 1, slot: 0, size: c as u64, min: 1, max: 1 };
+    let head = Segment { id: 1, slot: 0, size: c as u64, min: 1, max: 1, newest_at: 0 };
     hold(answer.refusal == 0 && answer.id == 1 && answer.log.segments[0] == head, "specimen 4: 2^30 bytes do not make 1,073,745,920")?;
     let (header, rest) = area.content().split_at(12);
     hold(header == [0, 0, 0, 0x40, 1, 0, 0, 0, 0, 0, 0, 0], "specimen 4: another header")?;
@@ -42,7 +42,20 @@ fn specimen_4(archive: &mut Archive) -> Checked<()> {
     let rows = [Image { id: 1, slot: 0, size: c as u64 }];
     let recovered = calls::recover(Shape { k: 1, c: c as u64, m: c as u64 }, area.content_mut(), &rows, 1, 1, index.content_mut());
     archive.count(recovered.refusal)?;
-    hold(recovered.refusal == 0 && recovered.log == answer.log && index.unchanged(&[1, 0, 12, LONGEST as u64]), "specimen 4: not recovered")
+    let whole = recovered.refusal == 0 && recovered.log == answer.log && index.unchanged(&[1, 0, 12, LONGEST as u64]);
+    hold(whole, "specimen 4: not recovered")?;
+    longest_cut(archive, &answer.log, &mut area)
+}
+
+/// The cut at a newest record of 2^30 bytes; with a byte more in its header, which the slot has room for, 10.
+fn longest_cut(archive: &mut Archive, log: &Log, area: &mut Lent<u8>) -> Checked<()> {
+    for (more, number) in [(0, 0), (1, 10)] {
+        area.content_mut()[..4].copy_from_slice(&(LONGEST as u32 + more).to_le_bytes());
+        let cut = calls::prune_recent(log, area.content_mut(), 1);
+        archive.count(cut.refusal)?;
+        hold(cut.refusal == number && cut.log == *log && area.guards_intact(), "a cut at a record of 2^30 bytes, or of one more")?;
+    }
+    Ok(())
 }
 
 /// K = 3, C = 2^31: slot 2 begins at 2^32.
@@ -102,20 +115,25 @@ fn area_beyond_4_gib(archive: &mut Archive) -> Checked<()> {
     let log = wide.append(archive, &log, b"abc")?;
     hold(wide.page(1, 4096)[..16] == *b"\x03\0\0\0\x05\0\0\0\0\0\0\0abc\0", "beyond 2 GiB: an append has other bytes")?;
     let log = wide.prune_recent(archive, &log, 3)?;
-    hold(log.count == 1 && log.segments[0].size == 1 << 31, "beyond 4 GiB: a cut at the slot's end")?;
+    hold(log.count == 1 && ends_at(&log, 1 << 31, THIRD_AT), "beyond 4 GiB: a cut at the slot's end")?;
     let log = wide.prune_recent(archive, &log, 2)?;
-    hold(log.segments[0].size == THIRD_AT, "beyond 4 GiB: a cut before the last page")?;
+    hold(ends_at(&log, THIRD_AT, SECOND_AT), "beyond 4 GiB: a cut before the last page")?;
     let log = wide.append(archive, &log, &[0xee; 4084])?;
     let page = wide.page(2, THIRD_AT);
     hold(page[..12] == *b"\xf4\x0f\0\0\x03\0\0\0\0\0\0\0" && page[12..] == [0xee; 4084], "beyond 4 GiB: an append has other bytes")?;
     let log = wide.append(archive, &log, b"")?;
-    let head = Segment { id: 8, slot: 0, size: 4096, min: 4, max: 4 };
-    hold(log.count == 2 && log.segments[0].size == 1 << 31 && log.segments[1] == head, "beyond 4 GiB: another new segment")?;
+    let head = Segment { id: 8, slot: 0, size: 4096, min: 4, max: 4, newest_at: 0 };
+    hold(log.count == 2 && ends_at(&log, 1 << 31, THIRD_AT) && log.segments[1] == head, "beyond 4 GiB: another new segment")?;
     hold(wide.page(0, 0)[..12] == *b"\0\0\0\0\x04\0\0\0\0\0\0\0", "beyond 4 GiB: a new segment has other bytes")?;
     let pruned = calls::prune_oldest(&log, wide.area.content_mut(), 4);
     archive.count(pruned.refusal)?;
     hold(pruned.refusal == 0 && pruned.log.count == 1 && pruned.log.segments[0] == head, "beyond 4 GiB: prune oldest")?;
     hold(wide.elsewhere_zero() && wide.area.guards_intact(), "beyond 4 GiB: bytes were written elsewhere")
+}
+
+/// The first segment has this size, and its newest record starts there.
+fn ends_at(log: &Log, size: u64, newest_at: u64) -> bool {
+    (log.segments[0].size, log.segments[0].newest_at) == (size, newest_at)
 }
 
 fn recovered(archive: &mut Archive, wide: &mut Wide) -> Checked<Log> {
@@ -124,8 +142,8 @@ fn recovered(archive: &mut Archive, wide: &mut Wide) -> Checked<Log> {
     let answer = calls::recover(WIDE, wide.area.content_mut(), &rows, 1, 4, index.content_mut());
     archive.count(answer.refusal)?;
     let mut expected = Log { slots: 3, capacity: 1 << 31, soft_size: 1 << 31, start_live: 1, end_live: 4, count: 2, ..NO_LOG };
-    expected.segments[0] = Segment { id: 7, slot: 2, size: 1 << 31, min: 1, max: 3 };
-    expected.segments[1] = Segment { id: 8, slot: 1, size: 4096, min: 4, max: 4 };
+    expected.segments[0] = Segment { id: 7, slot: 2, size: 1 << 31, min: 1, max: 3, newest_at: THIRD_AT };
+    expected.segments[1] = Segment { id: 8, slot: 1, size: 4096, min: 4, max: 4, newest_at: 0 };
     hold(answer.refusal == 0 && answer.log == expected, "beyond 4 GiB: another log is recovered")?;
     let delivered = [[1, 2, 12, 1 << 30], [2, 2, SECOND_AT + 12, SECOND_LENGTH], [3, 2, THIRD_AT + 12, 4084], [4, 1, 12, 5]];
     hold(index.unchanged(&delivered.concat()), "beyond 4 GiB: other rows are recovered")?;

@@ -130,8 +130,8 @@ fn unseen(archive: &mut Archive, case: &str, edit: impl Fn(&mut Asked)) -> Check
 /// The log of 7..e over segments 2 and 3, the latter of this size.
 fn log(e: u64, size: u64) -> Log {
     let mut log = Log { slots: 4, capacity: CAPACITY, soft_size: CAPACITY, start_live: 7, end_live: e, count: 2, ..NO_LOG };
-    log.segments[0] = Segment { id: 2, slot: 2, size: 8192, min: 6, max: 7 };
-    log.segments[1] = Segment { id: 3, slot: 0, size, min: 8, max: e };
+    log.segments[0] = Segment { id: 2, slot: 2, size: 8192, min: 6, max: 7, newest_at: 4096 };
+    log.segments[1] = Segment { id: 3, slot: 0, size, min: 8, max: e, newest_at: size - 4096 };
     log
 }
 

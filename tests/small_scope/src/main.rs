@@ -7,6 +7,7 @@ mod calls;
 mod cases_deltas;
 mod cases_logs;
 mod cases_names;
+mod cases_newest;
 mod cases_recovery;
 mod cases_sizes;
 mod cases_up_to_e;
@@ -18,6 +19,7 @@ mod hazards;
 #[path = "../../../oracle/src/lent.rs"]
 mod lent;
 mod model;
+mod newest;
 mod search;
 
 use archive::{refusal_numbers, Archive, Checked};
@@ -49,6 +51,7 @@ fn everything(longest: usize) -> Checked<bool> {
     cases_logs::run(&mut cases)?;
     cases_recovery::run(&mut cases)?;
     cases_up_to_e::run(&mut cases)?;
+    cases_newest::run(&mut cases)?;
     cases_names::run(&mut cases)?;
     cases_deltas::run(&mut cases)?;
     cases_sizes::run(&mut cases)?;

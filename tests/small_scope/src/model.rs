@@ -58,7 +58,16 @@ impl Segment {
     }
 
     fn max(&self) -> u64 {
-        self.records[self.records.len() - 1].id
+        self.newest().id
+    }
+
+    pub fn newest(&self) -> Record {
+        self.records[self.records.len() - 1]
+    }
+
+    /// Where the newest record starts in the slot: behind all others.
+    pub fn newest_at(&self) -> u64 {
+        self.size() - padded_record(self.newest().payload.length)
     }
 
     fn up_to(&self, end: u64) -> Segment {
@@ -90,8 +99,8 @@ impl Model {
         let (slots, capacity, soft_size) = self.shape;
         let mut segments = [NO_SEGMENT; 64];
         for (row, segment) in segments.iter_mut().zip(&self.segments) {
-            let (min, max) = (segment.min(), segment.max());
-            *row = ffi::Segment { id: segment.id, slot: segment.slot, size: segment.size(), min, max };
+            let (min, max, newest_at) = (segment.min(), segment.max(), segment.newest_at());
+            *row = ffi::Segment { id: segment.id, slot: segment.slot, size: segment.size(), min, max, newest_at };
         }
         let count = self.segments.len() as u64;
         ffi::Log { slots, capacity, soft_size, start_live: self.start, end_live: self.end, count, segments }

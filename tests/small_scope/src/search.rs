@@ -4,6 +4,7 @@
 use crate::archive::{hold, Archive, Checked};
 use crate::demand::{demand_3, recover_own};
 use crate::model::{Model, Payload};
+use crate::newest::cut_by_one_header;
 use std::collections::HashMap;
 use std::fmt;
 
@@ -120,6 +121,7 @@ impl Search {
         let State { model, pages, stamp } = self.found[at].state.clone();
         let area = self.pages.area(&pages);
         demand_3(archive, &model, &area, &APPENDED_LENGTHS, stamp)?;
+        cut_by_one_header(archive, &model, &area)?;
         rows_asked_for(archive, &model, &area)?;
         if self.found[at].length == self.longest {
             return Ok(());
