@@ -1,4 +1,4 @@
-//! Append, prune recent and recovery.
+//! Append and recovery.
 
 use crate::calls::{self, Shape};
 use crate::ffi::{Image, Log};
@@ -97,32 +97,6 @@ pub fn append(rounds: usize) {
             let case = format!("{} bytes, K = {}", n, shape.k);
             compare("append", &case, rounds, vec![Some(Box::new(ours)), Some(Box::new(bare)), Some(Box::new(theirs))]);
         }
-    }
-}
-
-/// The cut at the last of n one-page records, which every call finds anew.
-pub fn prune_recent(rounds: usize) {
-    for n in [16usize, 256, 2048] {
-        let capacity = (n * 4096) as u64;
-        let shape = Shape { k: 1, c: capacity, m: capacity };
-        let mut area = vec![0u8; capacity as usize];
-        let log = grow(shape, &mut area, n, b"abc");
-        let plain = area.clone();
-        let folder = Folder::new("prune");
-        let mut original = folder.open(1 << 40, 0, 0, |_, _| Ok(()));
-        for _ in 0..n {
-            original.append(b"abc").expect("an append");
-        }
-        let calls = (200_000 / n) as u32;
-        let ours = || per_call(calls, || assert_eq!(black_box(calls::prune_recent(&log, &mut area, n as u64)).refusal, 0));
-        let bare = || per_call(calls, || assert_ne!(black_box(limit::walk(black_box(&plain))), 0));
-        let theirs = || per_call(20, || original.prune_recent(RecordId(n as u64)).expect("a prune"));
-        compare(
-            "prune recent",
-            &format!("{} records", n),
-            rounds,
-            vec![Some(Box::new(ours)), Some(Box::new(bare)), Some(Box::new(theirs))],
-        );
     }
 }
 

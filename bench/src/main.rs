@@ -12,6 +12,7 @@ mod lent;
 #[path = "../../oracle/src/original.rs"]
 mod original;
 
+mod cuts;
 mod deltas;
 mod first_tenth;
 mod limit;
@@ -20,7 +21,7 @@ mod timing;
 
 const PARTS: [(&str, fn(usize)); 6] = [
     ("append", logs::append),
-    ("prune_recent", logs::prune_recent),
+    ("prune_recent", cuts::prune_recent),
     ("recover", logs::recover),
     ("first_tenth", first_tenth::recover),
     ("decode", deltas::decode),
