@@ -83,6 +83,12 @@ set-before : (was now b : Bool) → now ≡ (was || b) → b ≡ false → now �
 set-before true now b e f t = refl
 set-before false now b e f t = both-ways b (sym e ∙ t) f
 
+-- an id that some records set a flag at, or those behind them, lies among all of them
+found-among : {id low mid next high : ℕ} (here : Bool) → (here ≡ true → (low ≤ id) × (id ≤ mid))
+    → (here ≡ false → (next ≤ id) × (id ≤ high)) → low ≤ next → mid ≤ high → (low ≤ id) × (id ≤ high)
+found-among here first later up far =
+    by-test here (λ b. let h = first b in (h .0, omega (arith, h .1))) (λ b. let h = later b in (omega (arith, h .0), h .1))
+
 module _ (img : List ℕ) (c s e : ℕ) (in-slot : length img ≤ c) (whole : c % 4096 ≡ 0) (order : s ≤ e) where
   -- one record
   ran-one : (w d : Scan) → w .pos % 4096 ≡ 0 → recordStep img s e w ≡ Next d → Ran (length img) c s e w d
@@ -135,14 +141,8 @@ module _ (img : List ℕ) (c s e : ℕ) (in-slot : length img ≤ c) (whole : c 
         max = q .max;
         pages = q .pages;
         newest = q .newest;
-        start = λ f t.
-            by-test (d .«found_s»)
-            (λ b. let h = p .start f b in (h .0, omega (arith, h .1)))
-            (λ b. let h = q .start b t in (omega (arith, h .0), h .1));
-        end = λ f t.
-            by-test (d .«found_e»)
-            (λ b. let h = p .end f b in (h .0, omega (arith, h .1)))
-            (λ b. let h = q .end b t in (omega (arith, h .0), h .1));
+        start = λ f t. found-among (d .«found_s») (p .start f) (λ b. q .start b t) (omega arith) (omega arith);
+        end = λ f t. found-among (d .«found_e») (p .end f) (λ b. q .end b t) (omega arith) (omega arith);
         head = λ was. q .head (p .head was);
       }
     where
@@ -359,13 +359,7 @@ module _ (area : List ℕ) (k c s e : ℕ) (all : length area ≡ k * c) (whole 
               subst (λ (x : ℕ). Chain (InSlot k c) (i + 1) x (o .ys) (o .j) (d .last + 1)) (sym next) (o .chain),
             );
             empty = o .empty;
-            start = λ f t.
-                by-test (m .«found_s»)
-                (λ z. let y = ran .start f z in (y .0, omega (arith, y .1)))
-                (λ z. let y = o .start z t in (omega (arith, y .0), y .1));
-            end = λ f t.
-                by-test (m .«found_e»)
-                (λ z. let y = ran .end f z in (y .0, omega (arith, y .1)))
-                (λ z. let y = o .end z t in (omega (arith, y .0), y .1));
+            start = λ f t. found-among (m .«found_s») (ran .start f) (λ z. o .start z t) (omega arith) (omega arith);
+            end = λ f t. found-among (m .«found_e») (ran .end f) (λ z. o .end z t) (omega arith) (omega arith);
             head = λ was. o .head (ran .head was);
           }
