@@ -1,6 +1,8 @@
 // The delta codec: encoding. The table is tested and measured first, so that a refusal changes no byte; then the two groups are written
 // behind their counts, each in ascending key order.
 // Assumes nothing.
+#![tactic(auto)]
+
 ghost use Rattle.std.specs.Prelude.{◌≡◌, ◌++◌, false, ◌+◌, ◌≤◌, length};
 ghost use Rattle.lists.specs.Splice.{part, splice};
 ghost use Rattle.little_endian.specs.LittleEndian.{le_bytes};

@@ -1,6 +1,8 @@
 // The C interface (include/iflughan.h): each exported function hands its arguments on and turns the answer into a struct of numbers,
 // the refusal first. A refused call's struct has document 01's number and otherwise zeros, but for the log of append and of the prunes,
 // which is the log given. Padding has a name and is 0. Here stand the structs; the functions stand in the files of `mod`.
+#![tactic(auto)]
+
 use seglog::Log;
 
 mod deltas;

@@ -1,5 +1,7 @@
 // Little-endian numbers in a slice of bytes: a u32 or a u64 read from a place, its bytes, and its bytes written over a place.
 // Reading refuses where the bytes don't all stand: 40, as in a delta. A header's reader tests its twelve bytes before, and gives 17.
+#![tactic(auto)]
+
 ghost use Rattle.std.specs.Prelude.{◌≡◌, ◌+◌, ◌<◌, ◌≤◌, ◌^◌, leb, length};
 ghost use Rattle.lists.specs.Splice.{splice};
 ghost use Rattle.little_endian.specs.LittleEndian.{le_at, le_bytes, number_at, u32_outcome, u64_outcome};

@@ -1,5 +1,7 @@
 // The next multiple of the page: where a record's padding ends. One body for the writer and the readers, where the Rust has two
 // (segment_rw.rs). Any u32 may be given, and a record ends below 2^32 in any image; the sum is one of u64, which holds it.
+#![tactic(auto)]
+
 ghost use Rattle.std.specs.Prelude.{◌≡◌};
 ghost use Rattle.page.specs.Page.{padded_end};
 

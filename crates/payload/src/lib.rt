@@ -1,5 +1,7 @@
 // An index row asked for by its four words: whether it is good, its payload as a part of the area, and the payload decoded as a delta.
 // The row's id is not looked at: any slot below K with a part inside C bytes is good, whether the log lists it or not.
+#![tactic(auto)]
+
 ghost use Rattle.std.specs.Prelude.{◌≡◌, [], ◌+◌, ◌*◌};
 ghost use Rattle.lists.specs.Splice.{part};
 ghost use Rattle.delta.specs.Table.{table_of};

@@ -1,5 +1,7 @@
 // The header of a record: read from a place of an image, and written to the front of what is lent. From `RecordHeader`,
 // `RecordHeaderMut` and `read_header` of the Rust, with the header as a value and not as a view of bytes.
+#![tactic(auto)]
+
 ghost use Rattle.std.specs.Prelude.{◌≡◌};
 ghost use Rattle.lists.specs.Splice.{splice};
 ghost use Rattle.record.specs.Record.{header_bytes, header_outcome, header_number, header_of};

@@ -1,5 +1,7 @@
 // Recovery of a log from the images of its segments (`open`, `Recovery::scan_root_dir`, `remove_nonlive_segments` of the Rust's mod.rs).
 // The image rows are read once, into an array by value (`read_rows`); `recover` and everything below it work on that.
+#![tactic(auto)]
+
 ghost use Rattle.std.specs.Prelude.{◌≡◌, ◌<◌, length, take};
 ghost use Rattle.lists.specs.Outcome.{refused};
 ghost use Rattle.image_rows.specs.Rows.{no_rows, too_many, put_row, rows_of, listed_of};

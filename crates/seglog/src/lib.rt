@@ -1,5 +1,7 @@
 // The log value of the segmented log (`SegmentedLog`, `Segment` of the Rust's mod.rs): fixed arrays and a count in place of a Vec.
 // Here: whether it is well shaped, a new log, the live range. append stands in seglog_append, the prunes in seglog_prune.
+#![tactic(auto)]
+
 ghost use Rattle.std.specs.Prelude.{◌≡◌, ◌&&◌, ◌||◌, ◌+◌, ◌-◌, ◌%◌, length, eqb, leb};
 ghost use Rattle.lists.specs.Choice.{pick};
 ghost use Rattle.seglog.specs.View.{zero_of, empty_of, log_of};

@@ -1,5 +1,7 @@
 // Append (`SegmentedLog::append`, `create_segment`, `gen_segment_id` of the Rust's mod.rs), in two halves: where the record goes, which
 // is decided with no byte of the area or the payload, and putting it there, through the segment's writer.
+#![tactic(auto)]
+
 ghost use Rattle.std.specs.Prelude.{◌≡◌, ◌+◌, ◌*◌, ◌%◌, ◌^◌, true, length, take, ◌==◌, nat_le};
 ghost use Rattle.lists.specs.Choice.{pick};
 ghost use Rattle.lists.specs.Outcome.{refused, done};

@@ -1,5 +1,7 @@
 // The two prunes (`prune_oldest`, `prune_recent`, `scan_record_end`, `truncate_head_segment` of the Rust's mod.rs). Unlike there,
 // a refusal comes before anything is changed.
+#![tactic(auto)]
+
 ghost use Rattle.std.specs.Prelude.{◌≡◌, ◌++◌, ◌-◌, ◌≤◌, ◌<◌, take, drop, replicate, true};
 ghost use Rattle.seglog.specs.View.{log_of, view_of, plain_of};
 ghost use Rattle.seglog.specs.Fit.{fitting_of};

@@ -1,5 +1,7 @@
 // A listed segment and an image row (`Segment` of the Rust's mod.rs, and what its directory listing says of a segment file): the entry
 // of no segment, a segment that ends with a given record, and the one function that cuts a segment's image (`truncate_head_segment`).
+#![tactic(auto)]
+
 ghost use Rattle.std.specs.Prelude.{◌≡◌, ◌+◌, ◌*◌};
 ghost use Rattle.segment.specs.Segment.{no_segment, no_row, ended_at};
 ghost use Rattle.segment.specs.Cut.{inside_of, truncated_area};

@@ -1,5 +1,7 @@
 // Names of segment files, written and read on bytes: a name is read exactly where writing its id gives the same bytes.
 // Both are total: each refusal is an answer, and a refusal leaves the buffer as it was.
+#![tactic(auto)]
+
 ghost use Rattle.std.specs.Prelude.{◌≡◌, ◌≤◌, length};
 ghost use Rattle.lists.specs.Splice.{part};
 ghost use Rattle.segment_filename.specs.Words.{same, ends_with};

@@ -1,6 +1,8 @@
 // A record written to a segment's slot, through a writer that is lent and changed in place (`SegmentFileWriter` of the Rust's
 // segment_rw.rs: `write_header`, `write_payload`, `file_size`). No public function takes the writer. The room that the record takes,
 // padding included, is the caller's: whoever decides where a record goes has worked it out.
+#![tactic(auto)]
+
 ghost use Rattle.std.specs.Prelude.{◌≡◌, length};
 ghost use Rattle.lists.specs.Splice.{splice};
 ghost use Rattle.segment_rw.specs.Writer.{fits_slot, record_in, area_after, written_by, PutPre, Wrote};

@@ -1,6 +1,8 @@
 // The walk over one image, record by record (`scan_segment` of the Rust's mod.rs): one step that judges a header's answer and needs no byte
 // of the image (parts.rt), and the walk of one image, which keeps the state at which a fault stands. Recovery's two passes, prune recent's
 // search and whatever else reads images run on these. No function asks anything of its arguments.
+#![tactic(auto)]
+
 ghost use Rattle.std.specs.Prelude.{◌≡◌};
 ghost use Rattle.walk.specs.Judging.{record_at, live_of, judge_of, record_step, start_of, opened_of, next_image, goes_on, more_of};
 ghost use Rattle.walk.specs.Walk.{walk_of};

@@ -1,0 +1,18 @@
+-- `lists::copy_into` meets its contract. The loop's invariant: the first i bytes are written, by `paste`, and n of them have room.
+-- Assumes nothing.
+use mathlib.Core.Path.{◌≡◌, refl, ap, ◌∙◌}
+use Prim.Native.Nat.{◌≤◌, ◌-◌, min}
+use native.Mathlib.Omega.{arith}
+use lib.ListN.{length, length-set}
+use lib.Seq.{paste, paste-zero}
+use borrow.Author.Rules.{rules}
+use Rattle.lists.proofs.SpliceWrites.{paste-splice, paste-turn}
+use Rattle.lists.proofs.copy_into.Given as goal
+
+abbrev pub invariant-loop-i : goal.invariant-loop-i
+invariant-loop-i l =
+    (l.i ≤ l.n) × (l.n ≡ min (length l.initial.out - l.at) (length l.src)) × (length l.out ≡ length l.initial.out) × (l.out ≡ paste l.initial.out l.at l.src l.i)
+
+abbrev pub decreases-loop-i : goal.decreases-loop-i
+decreases-loop-i l =
+    l.n - l.i

@@ -1,0 +1,11 @@
+-- `little_endian::bytes_u32` meets its contract: the array is the definition, written out.
+-- Assumes nothing.
+use mathlib.Core.Path.{refl}
+use Rattle.little_endian.specs.LittleEndian.{le_bytes}
+use borrow.Author.Rules.{rules}
+use Rattle.little_endian.proofs.bytes_u32.Goals as goal
+
+pub returns : goal.returns
+unfolding le_bytes
+returns c =
+    refl

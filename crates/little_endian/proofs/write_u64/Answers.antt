@@ -1,0 +1,11 @@
+-- `little_endian::write_u64` meets its contract: the bytes of the number, copied.
+-- Assumes nothing.
+use mathlib.Core.Path.{ap, ◌∙◌}
+use Rattle.lists.specs.Splice.{splice}
+use borrow.Author.Rules.{rules}
+use Rattle.little_endian.proofs.write_u64.Goals as goal
+
+pub returns : goal.returns
+returns c =
+    let a = c.args in
+    c.copy_into.ensures ∙ ap (λ b. splice a.at b a.out.now) c.bytes_u64-bytes.ensures
