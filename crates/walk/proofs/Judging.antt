@@ -3,7 +3,6 @@
 use mathlib.Core.Path.{◌≡◌, refl, sym, ap, ◌∙◌}
 use mathlib.Core.Bool.{Bool, true, false, ◌&&◌, not, and-false}
 use mathlib.Core.List.{[], ◌∷◌}
-use mathlib.Core.Logic.{⊎_elim}
 use Prim.Native.Nat.{ℕ, zero, suc, ◌+◌, ◌-◌, ◌≤◌, ◌<◌}
 use native.Mathlib.Numerals.{add-one, sub-one}
 use native.Mathlib.Omega.{arith}
@@ -195,9 +194,9 @@ record-short size pos h f = simp f
 
 module _ (size pos : ℕ) (fits : header_fits size pos ≡ true) where
   -- what the refusal's branch of a `let .. else` is told, the answer's tag, gives 17 or 18
-  pub record-refused : (h : HeaderAnswer) → OneOf (1 ∷ 2 ∷ []) (tag_of the_type h) → Refused (header_number h) ≡ record_at size pos h
+  pub record-refused : (h : HeaderAnswer) → ((k : RecordHeader) → h ≡ Header k → ⊥) → Refused (header_number h) ≡ record_at size pos h
   unfolding record_at
-  record-refused (Header k) o = ⊎_elim (λ z. absurd (omega arith)) (λ z. absurd (omega arith)) o
+  record-refused (Header k) o = absurd (o k refl)
   record-refused Short o = simp fits
   record-refused TooLong o = simp fits
 

@@ -12,7 +12,7 @@ use record::HeaderAnswer;
 mod parts;
 
 // What the walk carries from record to record, and from image to image.
-#[derive(Drop)]
+#[derive(Clone, Copy)]
 pub struct Scan {
     // the next record's place in its image
     pub pos: u64,

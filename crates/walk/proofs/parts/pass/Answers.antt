@@ -8,8 +8,7 @@ use Rattle.lists.specs.Choice.{pick}
 use Rattle.walk.specs.declared.Placed.{Placed}
 use Rattle.walk.specs.declared.Scan.{Scan}
 use Rattle.walk.specs.Judging.{passed_of}
-use Rattle.walk.proofs.parts.pass.Statement.{statement}
-use Rattle.walk.proofs.parts.pass.Tie as tie
+use Rattle.walk.proofs.parts.pass.Goals as goal
 
 -- the state by its fields
 passed : (w : Scan) (s e : ℕ) (p : Placed) {min start end : ℕ} {fresh is-s is-e : Bool} → fresh ≡ eqb w.min 0 → is-s ≡ eqb p.id s
@@ -31,22 +30,8 @@ passed : (w : Scan) (s e : ℕ) (p : Placed) {min start end : ℕ} {fresh is-s i
     } (passed_of w s e p)
 passed w s e p f i j a b d = cc
 
-returns : tie.Need-returns
+pub returns : goal.returns
 returns c =
-    let ch = c.before.before.before.before in
-    let s3 = ch.before in
-    let a = s3.before.before.before.args in
-    passed a.state a.s a.e a.found s3.before.before.same.ensures s3.before.same2.ensures s3.same3.ensures
-    ch.choose.ensures c.before.choose2.ensures c.choose3.ensures
-
-pub pass_spec : {M : Type 1} → statement M
-pass_spec =
-    tie.close
-    (tie.spec
-    (λ c κs. tt)
-    (λ c κs. tt)
-    (λ c κs. tt)
-    (λ c κs. tt)
-    (λ c κs. tt)
-    (λ c κs. tt)
-    returns)
+    let a = c.args in
+    passed a.state a.s a.e a.found c.same-fresh.ensures c.same-is_s.ensures c.same-is_e.ensures
+    c.choose.ensures c.choose-2.ensures c.choose-3.ensures
