@@ -14,7 +14,7 @@ ghost use Rattle.delta_encode.specs.Bytes.{concat, encoded_of, after_of, Sized};
 use delta::Table;
 
 // What encoding comes to: the length written, or a refusal.
-#[derive(Drop)]
+#[derive(Clone, Copy)]
 pub enum Encoded {
     Written(usize),
     Outside,
@@ -47,7 +47,7 @@ pub fn encoded_length(answer: Encoded) -> u64
 }
 
 // How many rows each group has, and the bytes in all.
-#[derive(Drop)]
+#[derive(Clone, Copy)]
 struct Sizes {
     erases: u32,
     reinstates: u32,

@@ -12,7 +12,7 @@ mod recover;
 
 // A new log, a log after a prune (iflughan_logged).
 #[repr(C)]
-#[derive(Drop)]
+#[derive(Clone, Copy)]
 pub struct Logged {
     pub refusal: u32,
     pub reserved: u32,
@@ -21,7 +21,7 @@ pub struct Logged {
 
 // The record's id and the log (iflughan_appended).
 #[repr(C)]
-#[derive(Drop)]
+#[derive(Clone, Copy)]
 pub struct Appended {
     pub refusal: u32,
     pub reserved: u32,
@@ -31,7 +31,7 @@ pub struct Appended {
 
 // The number of index rows written, and the log (iflughan_recovered).
 #[repr(C)]
-#[derive(Drop)]
+#[derive(Clone, Copy)]
 pub struct Recovered {
     pub refusal: u32,
     pub reserved: u32,
@@ -41,7 +41,7 @@ pub struct Recovered {
 
 // A row's payload: its place in the area (iflughan_part).
 #[repr(C)]
-#[derive(Drop)]
+#[derive(Clone, Copy)]
 pub struct Part {
     pub refusal: u32,
     pub reserved: u32,
@@ -51,7 +51,7 @@ pub struct Part {
 
 // What is written: its length (iflughan_written).
 #[repr(C)]
-#[derive(Drop)]
+#[derive(Clone, Copy)]
 pub struct Written {
     pub refusal: u32,
     pub reserved: u32,
@@ -60,7 +60,7 @@ pub struct Written {
 
 // What a name says: the segment's id (iflughan_parsed).
 #[repr(C)]
-#[derive(Drop)]
+#[derive(Clone, Copy)]
 pub struct ParsedName {
     pub refusal: u32,
     pub id: u32,
@@ -68,7 +68,7 @@ pub struct ParsedName {
 
 // A row of a delta (iflughan_delta_row): present is 0 for an absent row, and 1 is written for a present one.
 #[repr(C)]
-#[derive(Drop)]
+#[derive(Clone, Copy)]
 pub struct DeltaRow {
     pub key: [u8; 32],
     pub present: u8,
@@ -80,7 +80,7 @@ pub struct DeltaRow {
 
 // A delta's table (iflughan_delta): the first `count` rows.
 #[repr(C)]
-#[derive(Drop)]
+#[derive(Clone, Copy)]
 pub struct Delta {
     pub count: u64,
     pub rows: [DeltaRow; 256],
@@ -88,7 +88,7 @@ pub struct Delta {
 
 // The bytes consumed, and the rows (iflughan_decoded).
 #[repr(C)]
-#[derive(Drop)]
+#[derive(Clone, Copy)]
 pub struct DecodedDelta {
     pub refusal: u32,
     pub reserved: u32,

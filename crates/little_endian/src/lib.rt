@@ -6,13 +6,13 @@ ghost use Rattle.std.specs.Prelude.{◌≡◌, ◌+◌, ◌<◌, ◌≤◌, ◌^
 ghost use Rattle.lists.specs.Splice.{splice};
 ghost use Rattle.little_endian.specs.LittleEndian.{le_at, le_bytes, number_at, u32_outcome, u64_outcome};
 
-#[derive(Drop)]
+#[derive(Clone, Copy)]
 pub enum U32At {
     Value(u32),
     Short,
 }
 
-#[derive(Drop)]
+#[derive(Clone, Copy)]
 pub enum U64At {
     Value(u64),
     Short,

@@ -12,7 +12,7 @@ ghost use Rattle.payload.specs.PayloadDelta.{no_delta, delta_answer, payload_del
 use delta::{Decoded, Row, Table};
 use seglog::Log;
 
-#[derive(Drop)]
+#[derive(Clone, Copy)]
 pub enum RowAnswer {
     Good,
     // the log is not well shaped, or the area's length is not K x C
@@ -94,7 +94,7 @@ pub fn payload<'a>(
 
 // A payload decoded as a delta: 2, 24 or the decoder's refusal with no rows; or 0 with the bytes consumed and the rows, whose offsets
 // count from the payload's first byte.
-#[derive(Drop)]
+#[derive(Clone, Copy)]
 pub struct PayloadDelta {
     pub refusal: u32,
     pub consumed: u64,

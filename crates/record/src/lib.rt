@@ -12,14 +12,14 @@ pub const HEADER_SIZE: usize = 12;
 
 pub const MAX_RECORD_PAYLOAD_SIZE: u32 = 1073741824;
 
-#[derive(Drop)]
+#[derive(Clone, Copy)]
 pub struct RecordHeader {
     // of the payload, in bytes
     pub length: u32,
     pub id: u64,
 }
 
-#[derive(Drop)]
+#[derive(Clone, Copy)]
 pub enum HeaderAnswer {
     Header(RecordHeader),
     // fewer than twelve bytes are left

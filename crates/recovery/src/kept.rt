@@ -12,7 +12,7 @@ use seglog::Log;
 use segment::Segment;
 
 // Segments at the front of 64 entries, `count` of them.
-#[derive(Drop)]
+#[derive(Clone, Copy)]
 pub(crate) struct Kept {
     pub count: usize,
     pub segs: [Segment; 64],

@@ -14,7 +14,7 @@ use segment::ImageRow;
 
 // A refusal's number with the all-zero log, or 0 with the number of index rows written and the log.
 #[repr(C)]
-#[derive(Drop)]
+#[derive(Clone, Copy)]
 pub struct Recovered {
     pub refusal: u32,
     pub rows: u64,

@@ -14,7 +14,7 @@ mod first_pass;
 mod second_pass;
 
 // What a scan answers: a fault's number, or 0 with the last state and the segments as they were seen.
-#[derive(Drop)]
+#[derive(Clone, Copy)]
 pub struct Scanned {
     pub fault: u32,
     pub scan: Scan,

@@ -16,7 +16,7 @@ use segment::{Segment, no_segment};
 
 // The listed segments stand first, `count` of them, the oldest at the front; the other entries are all zero.
 #[repr(C)]
-#[derive(Drop)]
+#[derive(Clone, Copy)]
 pub struct Log {
     // K slots of C bytes; a segment of M bytes or more takes no further record
     pub k: u64,
@@ -31,13 +31,13 @@ pub struct Log {
 
 // A refusal's number, or 0, and the log.
 #[repr(C)]
-#[derive(Drop)]
+#[derive(Clone, Copy)]
 pub struct Logged {
     pub refusal: u32,
     pub log: Log,
 }
 
-#[derive(Drop)]
+#[derive(Clone, Copy)]
 pub struct LiveRange {
     pub start: u64,
     pub end: u64,

@@ -15,7 +15,7 @@ use segment::Segment;
 
 // A refusal's number with id 0 and the log given, or 0 with the record's id and the new log.
 #[repr(C)]
-#[derive(Drop)]
+#[derive(Clone, Copy)]
 pub struct Appended {
     pub refusal: u32,
     pub id: u64,
@@ -24,14 +24,14 @@ pub struct Appended {
 
 // Where a record goes: behind the target segment's bytes. The target is the entry `at`, and the record takes `room` bytes, padding
 // included.
-#[derive(Drop)]
+#[derive(Clone, Copy)]
 pub struct Place {
     pub target: Segment,
     pub at: usize,
     pub room: u64,
 }
 
-#[derive(Drop)]
+#[derive(Clone, Copy)]
 pub enum Decision {
     Refused(u32),
     Goes(Place),

@@ -17,7 +17,7 @@ use segment::Segment;
 use walk::RecordAnswer;
 
 // How far the tests that both prunes share lead.
-#[derive(Drop)]
+#[derive(Clone, Copy)]
 enum Early {
     Refused(u32),
     // argument 0
@@ -28,14 +28,14 @@ enum Early {
 }
 
 // The record that a log is cut behind, its newest then: where its header starts in the slot, and its padded end.
-#[derive(Drop)]
+#[derive(Clone, Copy)]
 pub struct Newest {
     pub at: u64,
     pub end: u64,
 }
 
 // What stands at a place of an image where a record is looked for: that record; another one, with its padded end; or none.
-#[derive(Drop)]
+#[derive(Clone, Copy)]
 enum Look {
     Here(Newest),
     Other(u64),
@@ -43,7 +43,7 @@ enum Look {
 }
 
 // The record looked for, or that it is not there.
-#[derive(Drop)]
+#[derive(Clone, Copy)]
 enum CutAnswer {
     At(Newest),
     Lost,

@@ -8,7 +8,7 @@ ghost use Rattle.segment.specs.Cut.{inside_of, truncated_area};
 
 // One listed segment: its image is the first `size` bytes of its slot.
 #[repr(C)]
-#[derive(Drop)]
+#[derive(Clone, Copy)]
 pub struct Segment {
     pub id: u32,
     pub slot: u32,
@@ -22,7 +22,7 @@ pub struct Segment {
 
 // An image row: which slot holds the image of a segment, and how many bytes it has.
 #[repr(C)]
-#[derive(Drop)]
+#[derive(Clone, Copy)]
 pub struct ImageRow {
     pub id: u32,
     pub slot: u32,

@@ -10,7 +10,7 @@ ghost use Rattle.segment_filename.specs.Formatting.{format_outcome, format_numbe
 ghost use Rattle.segment_filename.specs.Parsing.{parse_outcome, parse_number, parse_id, u32_of, parse_of};
 
 // What `format` answers: the name's length, or why nothing was written.
-#[derive(Drop)]
+#[derive(Clone, Copy)]
 pub enum Formatted {
     Length(usize),
     EmptyPrefix,
@@ -40,7 +40,7 @@ pub fn formatted_length(answer: Formatted) -> u64
 }
 
 // What `parse` answers: the segment's id, or what is wrong with the name.
-#[derive(Drop)]
+#[derive(Clone, Copy)]
 pub enum Parsed {
     Id(u32),
     EmptyPrefix,

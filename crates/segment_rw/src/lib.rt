@@ -10,7 +10,7 @@ ghost use Rattle.segment_rw.specs.Writer.{fits_slot, record_in, area_after, writ
 use record::{HEADER_SIZE, MAX_RECORD_PAYLOAD_SIZE, RecordHeader};
 
 // Where the next record of a segment goes.
-#[derive(Drop)]
+#[derive(Clone, Copy)]
 struct SegmentWriter {
     slot: u32,
     size: u64,

@@ -36,7 +36,7 @@ pub struct Scan {
 }
 
 // A record and its place in an image.
-#[derive(Drop)]
+#[derive(Clone, Copy)]
 pub struct Placed {
     pub id: u64,
     // the payload: where it begins, its length, where it ends
@@ -48,21 +48,21 @@ pub struct Placed {
 }
 
 // What stands at a place of an image: a record, or 17 or 18.
-#[derive(Drop)]
+#[derive(Clone, Copy)]
 pub enum RecordAnswer {
     Record(Placed),
     Refused(u32),
 }
 
 // One step of the walk: the state after it, or a fault's number.
-#[derive(Drop)]
+#[derive(Clone, Copy)]
 pub enum Step {
     Next(Scan),
     Fault(u32),
 }
 
 // The walk of an image: the state at its end or behind e's record; or the first fault's number, and the state at which it stands.
-#[derive(Drop)]
+#[derive(Clone, Copy)]
 pub enum Walked {
     Ended(Scan),
     Faulted(u32, Scan),

@@ -1,0 +1,7 @@
+-- `empty_log` meets its contract. Assumes nothing.
+use borrow.Author.Rules.{rules}
+use Rattle.seglog.proofs.empty_log.Goals as goal
+
+pub returns : goal.returns
+returns c =
+    cc
