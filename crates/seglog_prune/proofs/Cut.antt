@@ -2,10 +2,9 @@
 use mathlib.Core.Path.{◌≡◌, refl, sym, ap, subst, ◌∙◌}
 use mathlib.Core.Bool.{Bool, true, false}
 use mathlib.Core.List.{List, [], ◌∷◌}
-use mathlib.Core.Logic.{⊎_elim}
+use mathlib.Core.Logic.{◌⊎◌, ⊎_elim}
 use Prim.Native.Nat.{ℕ, ◌+◌, ◌-◌, ◌%◌, ◌≤◌, ◌<◌}
 use native.Mathlib.Omega.{arith}
-use types.Run.{OneOf}
 use denote.Enum.Declared.{tag_of}
 use lib.ListN.{length}
 use lib.Dec.{ltb, eqb, lit<}
@@ -121,10 +120,8 @@ look-tells img n at = go (found_at img n at) refl
         by p (ltb (length img) p.end) (eqb p.id n) (record-placed (length img) at (header_at img at) p r) refl
 
 -- what the other two answers come to, by the tag that a branch is told
-pub only-lost : (o : Look) → OneOf (1 ∷ 2 ∷ []) (tag_of the_type o) → only o ≡ lost
-only-lost (Here x) tag = absurd (⊎_elim (λ z. omega arith) (λ z. omega arith) tag)
-only-lost (Other next) tag = refl
-only-lost Nothing tag = refl
+pub only-lost : (o : Look) → ((x : ℕ) × (o ≡ Other x)) ⊎ (o ≡ Nothing) → only o ≡ lost
+only-lost o is = ⊎_elim (λ h. ap only h.1) (λ h. ap only h) is
 
 -- ---- the search
 

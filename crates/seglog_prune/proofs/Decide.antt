@@ -3,11 +3,9 @@
 use mathlib.Core.Path.{◌≡◌, refl, sym, ap, ◌∙◌}
 use mathlib.Core.Bool.{Bool, true, false, not, ◌&&◌}
 use mathlib.Core.List.{List, [], ◌∷◌}
-use mathlib.Core.Logic.{⊎_elim}
+use mathlib.Core.Logic.{◌⊎◌, ⊎_elim}
 use Prim.Native.Nat.{ℕ, ◌*◌, ◌≤◌, ◌<◌}
 use native.Mathlib.Omega.{arith}
-use types.Run.{OneOf}
-use denote.Enum.Declared.{tag_of}
 use lib.ListN.{length, take, drop, length-take}
 use lib.Dec.{ltb, leb, eqb}
 use borrow.Author.Tests.{eq-eqb, ne_eqb, lt-ltb, le-ltb, leb-true, eqb-false, ltb-false}
@@ -173,24 +171,18 @@ module _ (l : Log) (area : List ℕ) (n : ℕ) (rest : Outcome Pruned) (long : l
     pub answer : settled_of l e ≡ prune_answer l (outcome_of (view_of l) area rest early)
     pub bytes : area ≡ prune_area area (outcome_of (view_of l) area rest early)
 
-  pub early-settles : (e : Early) → e ≡ early → OneOf (0 ∷ 1 ∷ 2 ∷ []) (tag_of the_type e) → Settled e
+  pub early-settles : (e : Early) → e ≡ early → (e ≡ Onward → ⊥) → Settled e
   early-settles e h tag = go e h tag (ap (outcome_of (view_of l) area rest) (sym h))
     where
-      go : (e : Early) → e ≡ early → OneOf (0 ∷ 1 ∷ 2 ∷ []) (tag_of the_type e)
+      go : (e : Early) → e ≡ early → (e ≡ Onward → ⊥)
           → outcome_of (view_of l) area rest early ≡ outcome_of (view_of l) area rest e → Settled e
       go (Refused m) h tag o = record { answer = ap (prune_answer l) (sym o); bytes = ap (prune_area area) (sym o) }
       go Empty h tag o = record { answer = ap (prune_answer l) (sym o); bytes = ap (prune_area area) (sym o) }
       go Same h tag o =
           let plain = fits-plain l (length area) (same-fits (view_of l) (fitting_of l (length area)) n h) in
           record { answer = ap accepted (sym (log-view l long plain)) ∙ ap (prune_answer l) (sym o); bytes = ap (prune_area area) (sym o) }
-      go Onward h tag o = absurd (none_of tag)
-        where
-          none_of : OneOf (0 ∷ 1 ∷ 2 ∷ []) 3 → ⊥
-          none_of t = ⊎_elim (λ z. omega arith) (λ z. ⊎_elim (λ y. omega arith) (λ y. omega arith) z) t
+      go Onward h tag o = absurd (tag refl)
 
 -- where the log given is the answer
-pub settled-given : (l : Log) (e : Early) → OneOf (2 ∷ 3 ∷ []) (tag_of the_type e) → accepted l ≡ settled_of l e
-settled-given l (Refused m) tag = absurd (⊎_elim (λ z. omega arith) (λ z. omega arith) tag)
-settled-given l Empty tag = absurd (⊎_elim (λ z. omega arith) (λ z. omega arith) tag)
-settled-given l Same tag = refl
-settled-given l Onward tag = refl
+pub settled-given : (l : Log) (e : Early) → (e ≡ Same) ⊎ (e ≡ Onward) → accepted l ≡ settled_of l e
+settled-given l e is = ⊎_elim (λ h. sym (ap (settled_of l) h)) (λ h. sym (ap (settled_of l) h)) is

@@ -4,7 +4,6 @@ use mathlib.Core.Bool.{true}
 use mathlib.Core.List.{List, [], ◌∷◌, ◌++◌, append_assoc}
 use Prim.Native.Nat.{ℕ, suc, ◌+◌, ◌-◌, ◌*◌, ◌≤◌, ◌<◌}
 use native.Mathlib.Omega.{arith}
-use types.Run.{OneOf}
 use denote.Enum.Declared.{tag_of}
 use lib.ListN.{
   length,
@@ -61,7 +60,7 @@ early_log l area n = early_of (view_of l) (fitting_of l (length area)) n
 
 -- the answer and the area where the tests decide
 pub oldest-settled : (l : Log) (area : List ℕ) (n : ℕ) → length l.segs ≡ 64 → (e : Early) → e ≡ early_log l area n
-    → OneOf (0 ∷ 1 ∷ 2 ∷ []) (tag_of the_type e)
+    → (e ≡ Onward → ⊥)
     → (settled_of l e ≡ prune_answer l (oldest_log l area n)) × (area ≡ prune_area area (oldest_log l area n))
 unfolding oldest_log prune_oldest_of
 oldest-settled l area n long e h tag = let s = early-settles l area n _ long e h tag in (s.answer, s.bytes)
@@ -99,7 +98,7 @@ started-is l n first segs long plain within kept e =
 -- ---- prune recent
 
 pub recent-settled : (l : Log) (area : List ℕ) (n : ℕ) → length l.segs ≡ 64 → (e : Early) → e ≡ early_log l area n
-    → OneOf (0 ∷ 1 ∷ 2 ∷ []) (tag_of the_type e)
+    → (e ≡ Onward → ⊥)
     → (settled_of l e ≡ prune_answer l (recent_log l area n)) × (area ≡ prune_area area (recent_log l area n))
 unfolding recent_log prune_recent_of
 recent-settled l area n long e h tag = let s = early-settles l area n _ long e h tag in (s.answer, s.bytes)

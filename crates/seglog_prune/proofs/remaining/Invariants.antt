@@ -1,0 +1,15 @@
+-- `seglog_prune::remaining` meets its contract: each turn passes a segment that goes.
+-- Assumes nothing.
+use mathlib.Core.Path.{refl, ◌∙◌}
+use native.Mathlib.Omega.{arith}
+use Rattle.seglog_prune.proofs.Drop.{Trails, new-on, new-stay, new_none}
+use borrow.Author.Rules.{rules}
+use Rattle.seglog_prune.proofs.remaining.Given as goal
+
+abbrev pub invariant-loop-left : goal.invariant-loop-left
+invariant-loop-left l =
+    Trails l.n l.count l.segs l.left
+
+abbrev pub decreases-loop-left : goal.decreases-loop-left
+decreases-loop-left l =
+    l.left
