@@ -230,6 +230,7 @@ module _ (s e : ℕ) (some : 0 < e) (order : s ≤ e) where
     past-images : (rs : List ImageRow) (v z : Pen) (gs : List Segment) → e ≤ v.scan.last → WholeImages area c s e rs v z gs
         → PastAll v z gs
     past-images [] v z gs l whole-none = record { words = refl; start = refl; end = refl; from = refl; head = refl; blank = tt }
+    past-images (r ∷ rs) v z [] l x3 = elim x3 [ ]
     past-images (r ∷ rs) v z (g ∷ gs) l (whole-image {m = m} calm one on) =
         let from : Pen = pen_with v.words (opened_of v.scan r.size) in
         let p = past-image (image_of area c r) r.slot from m l one in
@@ -291,6 +292,7 @@ module _ (s e : ℕ) (some : 0 < e) (order : s ≤ e) where
     unfolding images rows_all
     beside-all [] v z gs g whole-none =
         record { d = v.scan; segs = []; walk = refl; rows = refl; start = refl; end = refl; from = refl; head = refl; differ = inl refl }
+    beside-all (r ∷ rs) v z [] g x3 = elim x3 [ ]
     beside-all (r ∷ rs) v z (seg ∷ gs) g (whole-image {m = m} calm one on) =
         let img : List ℕ = image_of area c r in
         let from : Pen = pen_with v.words (opened_of v.scan r.size) in
