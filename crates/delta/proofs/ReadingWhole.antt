@@ -3,12 +3,9 @@
 use Prim.Native.Nat.{ℕ, ◌+◌, ◌-◌, ◌<◌, ◌≤◌}
 use mathlib.Core.Bool.{Bool, true, false}
 use mathlib.Core.List.{List, [], ◌∷◌, ◌++◌, append_assoc, append-nil}
-use mathlib.Core.Logic.{⊎_elim}
 use mathlib.Core.Path.{◌≡◌, refl, ap, sym, subst, ◌∙◌}
 use native.Mathlib.Omega.{arith}
 use borrow.Author.Tests.{lt-ltb, le-ltb}
-use denote.Enum.Declared as Declared
-use types.Run.{OneOf}
 use Rattle.lists.specs.Choice.{pick}
 use Rattle.lists.specs.Outcome.{Outcome, refused, done}
 use Rattle.little_endian.specs.LittleEndian.{u32_at}
@@ -25,7 +22,6 @@ use Rattle.delta.specs.declared.Read.{Read}
 use Rattle.delta.specs.declared.Arranged.{Arranged}
 use Rattle.delta.specs.declared.Decoding.{Decoding}
 use Rattle.delta.specs.declared.Decoding.TheVariants.{Consumed, EndsEarly, OverLimit, Duplicate}
-use Rattle.delta.specs.contracts.Decoding as DecodingType
 use Rattle.delta.proofs.TablePlain.{table-plain}
 use Rattle.delta.proofs.TableArranged.{arranged-clash, arranged-table}
 
@@ -75,9 +71,8 @@ Refused OverLimit = Unit {0}
 Refused Duplicate = Unit {0}
 
 -- an answer of another case than the first is a refusal
-pub other-refused : (d : Decoding) → OneOf (1 ∷ 2 ∷ 3 ∷ []) (Declared.tag_of DecodingType.the_type d) → Refused d
-other-refused (Consumed n) h = ⊎_elim (λ (e : 0 ≡ 1). absurd (omega arith))
-    (λ k. ⊎_elim (λ (e : 0 ≡ 2). absurd (omega arith)) (λ (e : 0 ≡ 3). absurd (omega arith)) k) h
+pub other-refused : (d : Decoding) → ((n : ℕ) → d ≡ Consumed n → ⊥) → Refused d
+other-refused (Consumed n) h = absurd (h n refl)
 other-refused EndsEarly h = tt
 other-refused OverLimit h = tt
 other-refused Duplicate h = tt

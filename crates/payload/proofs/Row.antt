@@ -3,15 +3,12 @@
 use mathlib.Core.Path.{◌≡◌, refl, sym, ap, ◌∙◌}
 use mathlib.Core.Bool.{Bool, true, false, ◌&&◌, ◌||◌, not}
 use mathlib.Core.List.{List, [], ◌∷◌}
-use mathlib.Core.Logic.{⊎_elim}
 use Prim.Native.Nat.{ℕ, ◌+◌, ◌*◌, ◌≤◌, ◌<◌}
 use native.Mathlib.Nat.{mul-le-mul_right, suc-mul}
 use native.Mathlib.Omega.{arith}
 use lib.ListN.{length}
 use lib.Dec.{ltb, leb, eqb}
 use borrow.Author.Tests.{ltb-false, leb-false, eqb-true, eq-eqb, ne_eqb}
-use types.Run.{OneOf}
-use denote.Enum.Declared.{tag_of}
 use Rattle.lists.specs.Choice.{◌⇒◌, first}
 use Rattle.lists.specs.Splice.{part}
 use Rattle.lists.proofs.Bools.{and_both, clash}
@@ -23,13 +20,12 @@ use Rattle.payload.specs.declared.RowAnswer.{RowAnswer}
 use Rattle.payload.specs.declared.RowAnswer.TheVariants.{Good, NotShaped, Outside}
 use Rattle.payload.specs.Row.{row_number, outside_of, row_question, GoodRow, payload_of}
 use Rattle.payload.specs.PayloadDelta.{no_delta, delta_answer, payload_delta}
-use Rattle.payload.specs.contracts.RowAnswer.{the_type}
 
 -- ---- an answer and its number
 
 -- an answer that isn't good has a number
-pub row-refused : (q : RowAnswer) → OneOf (1 ∷ 2 ∷ []) (tag_of the_type q) → row_number q ≡ 0 → ⊥
-row-refused Good o e = ⊎_elim (λ z. omega arith) (λ z. omega arith) o
+pub row-refused : (q : RowAnswer) → (q ≡ Good → ⊥) → row_number q ≡ 0 → ⊥
+row-refused Good o e = o refl
 row-refused NotShaped o e = omega arith
 row-refused Outside o e = omega arith
 

@@ -5,23 +5,10 @@ use Prim.Native.Nat.{ℕ, ◌+◌, ◌-◌, ◌*◌}
 use native.Mathlib.Omega.{arith}
 use lib.ListN.{take, drop}
 use borrow.Author.Rules.{rules}
-use Rattle.payload.proofs.place.Statement.{statement}
-use Rattle.payload.proofs.place.Tie as tie
+use Rattle.payload.proofs.place.Goals as goal
 
-returns : tie.Need-returns
+pub returns : goal.returns
 returns c =
-    let a = c.before.before.args in
+    let a = c.args in
     let from : ℕ = a.slot * a.log.c + a.offset in
     let n : from + a.length - from ≡ a.length = omega arith in ap (λ k. take k (drop from a.area.now)) n
-
-pub place-spec : {M : Type 1} → statement M
-place-spec =
-    tie.close
-    (tie.spec
-    (λ c. search rules)
-    (λ c. search rules)
-    (λ c. search rules)
-    (λ c. search rules)
-    (λ c. search rules)
-    (λ c. search rules)
-    returns)

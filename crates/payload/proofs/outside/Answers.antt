@@ -8,8 +8,7 @@ use lib.Dec.{ltb}
 use borrow.Author.Tests.{lt-ltb, le-ltb, le-leb, lt-leb}
 use Rattle.lists.proofs.Cases.{by_order}
 use Rattle.payload.specs.Row.{outside_of}
-use Rattle.payload.proofs.outside.Statement.{statement}
-use Rattle.payload.proofs.outside.Tie as tie
+use Rattle.payload.proofs.outside.Goals as goal
 
 above-c : (c o n : ℕ) → c < o → ltb c (o + n) ≡ true
 above-c c o n h = lt-ltb c (o + n) (omega arith)
@@ -20,21 +19,16 @@ sum-above c o n h =
     (λ g. le-ltb (c - o) n g ∙ sym (le-ltb c (o + n) (omega arith)))
     (λ g. lt-ltb (c - o) n g ∙ sym (lt-ltb c (o + n) (omega arith)))
 
-returns : tie.Need-returns
+pub returns-then-log-slot : goal.returns-then-log-slot
 unfolding outside_of
-returns c = simp (le-leb _ _ c.if1.true)
+returns-then-log-slot c = simp (le-leb _ _ c.if-log-slot.true)
 
-returns-2 : tie.Need-returns-2
+pub returns-then-log-offset : goal.returns-then-log-offset
 unfolding outside_of
-returns-2 c =
-    let else-1 = c.before.before in
-    simp (lt-leb _ _ else-1.if1.false, above-c _ _ else-1.before.before.args.length c.if2.true)
+returns-then-log-offset c =
+    simp (lt-leb _ _ c.if-log-slot.false, above-c _ _ c.args.length c.if-log-offset.true)
 
-returns-3 : tie.Need-returns-3
+pub returns : goal.returns
 unfolding outside_of
-returns-3 c =
-    let else-1 = c.before.before.before in
-    simp (lt-leb _ _ else-1.if1.false) (sum-above _ _ else-1.before.before.args.length c.before.if2.false)
-
-pub outside-spec : {M : Type 1} → statement M
-outside-spec = tie.close (tie.spec returns returns-2 returns-3)
+returns c =
+    simp (lt-leb _ _ c.if-log-slot.false) (sum-above _ _ c.args.length c.if-log-offset.false)
