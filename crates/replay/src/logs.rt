@@ -6,7 +6,7 @@ use seglog_append::Appended;
 use segment::Segment;
 
 // Whether the answer was the recorded one, and the log after it.
-#[derive(Drop)]
+#[derive(Clone, Copy)]
 pub(crate) struct Turn {
     pub(crate) good: bool,
     pub(crate) log: Log,

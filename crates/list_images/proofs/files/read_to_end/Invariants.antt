@@ -1,0 +1,6 @@
+-- Each read brings a byte or more, up to one piece past the limit. Assumes nothing.
+use Rattle.std.proofs.Common.{◌+◌, ◌-◌}
+use Rattle.list_images.proofs.files.read_to_end.Given as goal
+
+abbrev pub decreases-loop-size : goal.decreases-loop-size
+decreases-loop-size l = l.limit + 1 - l.size

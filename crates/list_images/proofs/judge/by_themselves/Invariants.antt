@@ -1,0 +1,6 @@
+-- One line after the other. Assumes nothing.
+use Rattle.std.proofs.Common.{◌-◌}
+use Rattle.list_images.proofs.judge.by_themselves.Given as goal
+
+abbrev pub decreases-loop-i : goal.decreases-loop-i
+decreases-loop-i l = l.n - l.i
