@@ -3,7 +3,7 @@ use Rattle.std.proofs.Common.{◌≡◌, ◌-◌, ◌≤◌, length}
 use Rattle.list_images.proofs.files.load.Given as goal
 
 abbrev pub invariant-loop-i : goal.invariant-loop-i
-invariant-loop-i l = (l.i ≤ 64) × (l.at ≤ length l.area) × (length l.area ≡ length l.initial.area)
+invariant-loop-i g l = (l.i ≤ 64) × (l.at ≤ length l.area) × (length l.area ≡ length l.initial.area)
 
 abbrev pub decreases-loop-i : goal.decreases-loop-i
-decreases-loop-i l = 64 - l.i
+decreases-loop-i g l = 64 - l.i

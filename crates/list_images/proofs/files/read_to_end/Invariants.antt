@@ -3,4 +3,4 @@ use Rattle.std.proofs.Common.{◌+◌, ◌-◌}
 use Rattle.list_images.proofs.files.read_to_end.Given as goal
 
 abbrev pub decreases-loop-size : goal.decreases-loop-size
-decreases-loop-size l = l.limit + 1 - l.size
+decreases-loop-size g l = l.limit + 1 - l.size

@@ -3,4 +3,4 @@ use Rattle.std.proofs.Common.{◌-◌}
 use Rattle.list_images.proofs.judge.by_themselves.Given as goal
 
 abbrev pub decreases-loop-i : goal.decreases-loop-i
-decreases-loop-i l = l.n - l.i
+decreases-loop-i g l = l.n - l.i
