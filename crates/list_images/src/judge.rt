@@ -199,6 +199,11 @@ fn belongs(
     fits(rt, rows, row, name, limit)
 }
 
+// The name in the line that a row's slot has.
+fn row_name<'a>(names: &'a [u8], row: ImageRow) -> &'a [u8] {
+    lines::name(lines::line(names, row.slot as usize))
+}
+
 // Judges each row among the others; how many do not belong.
 fn together(rt: &impl Print, names: &[u8], rows: Rows, limit: usize) -> io::Result<u64> {
     let mut faults: u64 = 0;
@@ -208,7 +213,7 @@ fn together(rt: &impl Print, names: &[u8], rows: Rows, limit: usize) -> io::Resu
             break;
         }
         let row = rows.rows[i];
-        let name = lines::name(lines::line(names, row.slot as usize));
+        let name = row_name(names, row);
         if !belongs(rt, rows, row, name, limit)? {
             faults = std::num::wrapping_add_u64(faults, 1);
         }
