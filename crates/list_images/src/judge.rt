@@ -1,4 +1,5 @@
 // What belongs to the log of this prefix, and what does not: each name that does not is said, with the reason.
+// Assumes nothing.
 use crate::{files, images, lines, named, say};
 use image_rows::Rows;
 use segment::ImageRow;

@@ -1,4 +1,5 @@
 // Lines D and E: deltas decoded, and encoded again.
+// Assumes nothing.
 use crate::fields;
 use delta::{Decoding, Row, Table};
 use delta_encode::Encoded;

@@ -1,4 +1,5 @@
 // Lines L, A, O, R, N and V: histories of a log, with the log and its segments' bytes compared after each call.
+// Assumes nothing.
 use crate::{digest, fields};
 use image_rows::Rows;
 use seglog::{Log, Logged};

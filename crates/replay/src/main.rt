@@ -240,7 +240,7 @@ fn run(rt: &impl Print, file: &mut File, payload: &mut [u8]) -> io::Result<()> {
     }
 }
 
-// Opens the file whose path the first argument is. A path that is no UTF-8 text, or longer than the buffer, is no path.
+// Opens the file whose path the first argument is, and says why where it cannot. A path that is no UTF-8 text is no path.
 fn open(rt: &HostRuntime) -> io::Result<File> {
     let mut path = [0u8; 4096];
     let length = match rt.arg(1, &mut path) {
@@ -250,7 +250,13 @@ fn open(rt: &HostRuntime) -> io::Result<File> {
     let Ok(name) = str::from_utf8(&path[..length]) else {
         return Err(io::Error::from(io::ErrorKind::InvalidFilename));
     };
-    File::open(rt, name)
+    match File::open(rt, name) {
+        Ok(file) => Ok(file),
+        Err(error) => {
+            eprintln!(rt; "{name}: {error}")?;
+            Err(error)
+        }
+    }
 }
 
 fn main(rt: HostRuntime) -> io::Result<()> {

@@ -1,4 +1,5 @@
 // Lines W and P: names written and read.
+// Assumes nothing.
 use crate::fields;
 use segment_filename::{Formatted, Parsed};
 

@@ -1,4 +1,5 @@
 // 1 to 10: a new log, append and the prunes.
+// Assumes nothing.
 use crate::{met, say};
 use seglog::Log;
 use segment::Segment;

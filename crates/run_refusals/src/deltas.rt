@@ -1,4 +1,5 @@
 // 40 to 44: deltas.
+// Assumes nothing.
 use crate::met;
 use delta::{Row, Table};
 use std::io;

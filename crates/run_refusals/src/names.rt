@@ -1,4 +1,5 @@
 // 30 to 36: names.
+// Assumes nothing.
 use crate::met;
 use std::io;
 

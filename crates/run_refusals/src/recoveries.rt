@@ -1,4 +1,5 @@
 // 11 to 24: recovery and the row question, on the images of two segments with the records 1-2 and 3-4, a page each.
+// Assumes nothing.
 use crate::met;
 use image_rows::Rows;
 use segment::ImageRow;

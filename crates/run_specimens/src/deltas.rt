@@ -1,4 +1,5 @@
 // Specimens 9 to 12: deltas.
+// Assumes nothing.
 use crate::holds;
 use delta::{Row, Table};
 use delta_encode::Encoded;

@@ -1,4 +1,5 @@
 // Specimens 1, 2, 3, 13's last sentence and 14: the log.
+// Assumes nothing.
 use crate::holds;
 use recovery::Recovered;
 use seglog::Log;

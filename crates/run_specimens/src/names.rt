@@ -1,4 +1,5 @@
 // Specimens 5 to 8: names.
+// Assumes nothing.
 use crate::{holds, say};
 use segment_filename::Formatted;
 use std::io;

@@ -1,4 +1,5 @@
--- Each turn leaves a row less. Assumes nothing.
+-- `demo::rows_and_texts`: each turn leaves a row less.
+-- Assumes nothing.
 use Rattle.std.proofs.Common.{◌≤◌, length}
 use Rattle.demo.proofs.rows_and_texts.Given as goal
 

@@ -1,4 +1,5 @@
--- The area has its length, by the law of repeated elements and not by counting half a million of them. Assumes nothing.
+-- `list_images::main`: the area has its length, by the law of repeated elements and not by counting half a million of them.
+-- Assumes nothing.
 use mathlib.Core.Path.{sym}
 use Prim.Native.Nat.{ℕ}
 use lib.ListN.{length-replicate}

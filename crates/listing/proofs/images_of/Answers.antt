@@ -1,4 +1,5 @@
--- One row after the other. Assumes nothing.
+-- `listing::images_of`: one row after the other.
+-- Assumes nothing.
 use mathlib.Core.Path.{ap}
 use Rattle.std.proofs.Common.{arith}
 use Rattle.listing.proofs.Images.{mapped-turn, mapped-whole}

@@ -1,4 +1,5 @@
--- The first i rows are those of the first i segments. Assumes nothing.
+-- `listing::images_of`: the first i rows are those of the first i segments.
+-- Assumes nothing.
 use Rattle.std.proofs.Common.{◌-◌}
 use Rattle.listing.proofs.Images.{Mapped}
 use Rattle.listing.proofs.images_of.Given as goal

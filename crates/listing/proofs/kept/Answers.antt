@@ -1,4 +1,5 @@
--- The pieces of the line, one behind the other. Assumes nothing.
+-- `listing::kept`: the pieces of the line, one behind the other.
+-- Assumes nothing.
 use Rattle.text.proofs.Texts.{put-join}
 use Rattle.listing.proofs.kept.Goals as goal
 

@@ -1,4 +1,5 @@
--- The words that stand from i on, and a line end. Assumes nothing.
+-- `listing::line`: the words that stand from i on, and a line end.
+-- Assumes nothing.
 use native.Mathlib.Nat.{add-zero}
 use lib.Seq.{get_or-drop}
 use Rattle.text.proofs.Texts.{put-join}

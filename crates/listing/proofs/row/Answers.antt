@@ -1,4 +1,5 @@
--- Four numbers, one behind the other. Assumes nothing.
+-- `listing::row`: four numbers, one behind the other.
+-- Assumes nothing.
 use Rattle.text.proofs.Texts.{put-join}
 use Rattle.listing.proofs.row.Goals as goal
 

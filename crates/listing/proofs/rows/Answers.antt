@@ -1,4 +1,5 @@
--- One line after the other, until no row is left or the index has no more. Assumes nothing.
+-- `listing::rows`: one line after the other, until no row is left or the index has no more.
+-- Assumes nothing.
 use Rattle.std.proofs.Common.{arith}
 use Rattle.text.proofs.Texts.{put-join}
 use Rattle.listing.proofs.Lines.{rest-turn, rest-ends, rest-short}

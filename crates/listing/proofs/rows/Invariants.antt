@@ -1,4 +1,5 @@
--- What is still to be put is the lines of the `left` rows from word i on. Assumes nothing.
+-- `listing::rows`: what is still to be put is the lines of the `left` rows from word i on.
+-- Assumes nothing.
 use Rattle.listing.specs.Lines.{row_lines}
 use Rattle.listing.proofs.Lines.{Rest}
 use Rattle.listing.proofs.rows.Given as goal

@@ -1,4 +1,5 @@
--- A million lines at most. Assumes nothing.
+-- `replay::replay_all`: a million lines at most.
+-- Assumes nothing.
 use Rattle.std.proofs.Common.{◌≡◌, ◌-◌, ◌≤◌, length}
 use Rattle.replay.proofs.replay_all.Given as goal
 

@@ -1,4 +1,5 @@
--- Thirteen counts. Assumes nothing.
+-- `replay::total`: thirteen counts.
+-- Assumes nothing.
 use Rattle.std.proofs.Common.{◌-◌, ◌≤◌}
 use Rattle.replay.proofs.total.Given as goal
 

@@ -1,4 +1,5 @@
--- Each turn appends a record, and leaves one less to append. Assumes nothing.
+-- `samples::filled`: each turn appends a record, and leaves one less to append.
+-- Assumes nothing.
 use mathlib.Core.Path.{sym, ap, ◌∙◌}
 use Rattle.std.proofs.Common.{arith, ◌-◌}
 use Rattle.samples.specs.Sample.{abcs}

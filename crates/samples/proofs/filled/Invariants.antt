@@ -1,4 +1,5 @@
--- The appends that are left lead to the whole sample. Assumes nothing.
+-- `samples::filled`: the appends that are left lead to the whole sample.
+-- Assumes nothing.
 use Rattle.std.proofs.Common.{◌≡◌, length}
 use Rattle.samples.specs.Sample.{abcs}
 use Rattle.samples.proofs.filled.Given as goal

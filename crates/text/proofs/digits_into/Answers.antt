@@ -1,4 +1,5 @@
--- One digit more is put, and the first digit is put. Assumes nothing.
+-- `text::digits_into`: one digit more is put, and the first digit is put.
+-- Assumes nothing.
 use Rattle.std.proofs.Common.{arith}
 use Rattle.text.proofs.DecimalDigits.{placed-turn, placed-ends}
 use Rattle.text.proofs.digits_into.Goals as goal

@@ -1,4 +1,5 @@
--- The digits that are put stand behind place i; those of `rest` are still to be put. Assumes nothing.
+-- `text::digits_into`: the digits that are put stand behind place i; those of `rest` are still to be put.
+-- Assumes nothing.
 use Rattle.text.proofs.DecimalDigits.{Placed}
 use Rattle.text.proofs.digits_into.Given as goal
 

@@ -1,4 +1,5 @@
--- A number behind a word: both are one text. Assumes nothing.
+-- `text::put_named`: a number behind a word: both are one text.
+-- Assumes nothing.
 use Rattle.text.proofs.Texts.{put-join}
 use Rattle.text.proofs.put_named.Goals as goal
 

@@ -1,4 +1,5 @@
--- One slot after the other, inside the area; 64 rows. Assumes nothing.
+-- `demo::files::load`: one slot after the other, inside the area; 64 rows.
+-- Assumes nothing.
 use Rattle.std.proofs.Common.{◌≡◌, ◌-◌, ◌≤◌, length}
 use Rattle.demo.proofs.files.load.Given as goal
 

@@ -1,4 +1,5 @@
--- Each read brings a byte or more, inside the buffer. Assumes nothing.
+-- `demo::files::read_full`: each read brings a byte or more, inside the buffer.
+-- Assumes nothing.
 use Rattle.std.proofs.Common.{◌≡◌, ◌-◌, ◌≤◌, length}
 use Rattle.demo.proofs.files.read_full.Given as goal
 

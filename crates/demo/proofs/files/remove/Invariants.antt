@@ -1,4 +1,5 @@
--- 64 segments at most. Assumes nothing.
+-- `demo::files::remove`: 64 segments at most.
+-- Assumes nothing.
 use Rattle.std.proofs.Common.{◌-◌, ◌≤◌}
 use Rattle.demo.proofs.files.remove.Given as goal
 

@@ -1,4 +1,5 @@
--- 64 segments at most. Assumes nothing.
+-- `demo::files::save`: 64 segments at most.
+-- Assumes nothing.
 use Rattle.std.proofs.Common.{◌-◌, ◌≤◌}
 use Rattle.demo.proofs.files.save.Given as goal
 

@@ -1,4 +1,5 @@
--- One digit after the other. Assumes nothing.
+-- `list_images::arguments::decimal`: one digit after the other.
+-- Assumes nothing.
 use Rattle.std.proofs.Common.{◌-◌, ◌≤◌, length}
 use Rattle.list_images.proofs.arguments.decimal.Given as goal
 

@@ -1,4 +1,5 @@
--- One slot after the other, inside the area. Assumes nothing.
+-- `list_images::files::load`: one slot after the other, inside the area.
+-- Assumes nothing.
 use Rattle.std.proofs.Common.{◌≡◌, ◌-◌, ◌≤◌, length}
 use Rattle.list_images.proofs.files.load.Given as goal
 

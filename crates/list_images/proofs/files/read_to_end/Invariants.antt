@@ -1,4 +1,5 @@
--- Each read brings a byte or more, up to one piece past the limit. Assumes nothing.
+-- `list_images::files::read_to_end`: each read brings a byte or more, up to one piece past the limit.
+-- Assumes nothing.
 use Rattle.std.proofs.Common.{◌+◌, ◌-◌}
 use Rattle.list_images.proofs.files.read_to_end.Given as goal
 

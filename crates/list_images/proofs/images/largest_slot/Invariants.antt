@@ -1,4 +1,5 @@
--- 64 rows at most. Assumes nothing.
+-- `list_images::images::largest_slot`: 64 rows at most.
+-- Assumes nothing.
 use Rattle.std.proofs.Common.{◌-◌, ◌≤◌}
 use Rattle.list_images.proofs.images.largest_slot.Given as goal
 

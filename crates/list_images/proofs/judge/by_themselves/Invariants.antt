@@ -1,4 +1,5 @@
--- One line after the other. Assumes nothing.
+-- `list_images::judge::by_themselves`: one line after the other.
+-- Assumes nothing.
 use Rattle.std.proofs.Common.{◌-◌}
 use Rattle.list_images.proofs.judge.by_themselves.Given as goal
 

@@ -1,4 +1,5 @@
--- 64 rows at most. Assumes nothing.
+-- `list_images::judge::times`: 64 rows at most.
+-- Assumes nothing.
 use Rattle.std.proofs.Common.{◌-◌, ◌≤◌}
 use Rattle.list_images.proofs.judge.times.Given as goal
 

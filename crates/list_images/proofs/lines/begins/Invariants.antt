@@ -1,4 +1,5 @@
--- One byte after the other. Assumes nothing.
+-- `list_images::lines::begins`: one byte after the other.
+-- Assumes nothing.
 use Rattle.std.proofs.Common.{◌-◌, ◌≤◌, length}
 use Rattle.list_images.proofs.lines.begins.Given as goal
 

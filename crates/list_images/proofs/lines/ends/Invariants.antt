@@ -1,4 +1,5 @@
--- One byte after the other. Assumes nothing.
+-- `list_images::lines::ends`: one byte after the other.
+-- Assumes nothing.
 use Rattle.std.proofs.Common.{◌-◌, ◌≤◌, length}
 use Rattle.list_images.proofs.lines.ends.Given as goal
 

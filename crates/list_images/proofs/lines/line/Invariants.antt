@@ -1,4 +1,5 @@
--- Each turn leaves a line less. Assumes nothing.
+-- `list_images::lines::line`: each turn leaves a line less.
+-- Assumes nothing.
 use Rattle.list_images.proofs.lines.line.Given as goal
 
 abbrev pub decreases-loop-left : goal.decreases-loop-left

@@ -1,4 +1,5 @@
--- One row after the other, 256 at most. Assumes nothing.
+-- `replay::deltas::rows_same`: one row after the other, 256 at most.
+-- Assumes nothing.
 use Rattle.std.proofs.Common.{◌-◌, ◌≤◌}
 use Rattle.replay.proofs.deltas.rows_same.Given as goal
 

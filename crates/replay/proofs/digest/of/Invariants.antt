@@ -1,4 +1,5 @@
--- One byte after the other. Assumes nothing.
+-- `replay::digest::of`: one byte after the other.
+-- Assumes nothing.
 use Rattle.std.proofs.Common.{◌-◌, ◌≤◌, length}
 use Rattle.replay.proofs.digest.of.Given as goal
 

@@ -1,4 +1,5 @@
--- Two digits a byte, inside both slices. Assumes nothing.
+-- `replay::fields::bytes`: two digits a byte, inside both slices.
+-- Assumes nothing.
 use Rattle.std.proofs.Common.{◌≡◌, ◌-◌, ◌≤◌, length}
 use Rattle.replay.proofs.fields.bytes.Given as goal
 

@@ -1,4 +1,5 @@
--- One digit after the other; the value's high digit is dropped before it grows. Assumes nothing.
+-- `replay::fields::hex`: one digit after the other; the value's high digit is dropped before it grows.
+-- Assumes nothing.
 use Rattle.std.proofs.Common.{◌-◌, ◌≤◌, length}
 use Rattle.replay.proofs.fields.hex.Given as goal
 

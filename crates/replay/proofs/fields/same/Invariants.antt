@@ -1,4 +1,5 @@
--- One byte after the other. Assumes nothing.
+-- `replay::fields::same`: one byte after the other.
+-- Assumes nothing.
 use Rattle.std.proofs.Common.{◌-◌, ◌≤◌, length}
 use Rattle.replay.proofs.fields.same.Given as goal
 

@@ -1,4 +1,5 @@
--- Each turn leaves a word less to pass. Assumes nothing.
+-- `replay::fields::word`: each turn leaves a word less to pass.
+-- Assumes nothing.
 use Rattle.replay.proofs.fields.word.Given as goal
 
 abbrev pub decreases-loop-left : goal.decreases-loop-left

@@ -1,4 +1,5 @@
--- 64 rows at most, 24 digits each. Assumes nothing.
+-- `replay::images::rows_of`: 64 rows at most, 24 digits each.
+-- Assumes nothing.
 use Rattle.std.proofs.Common.{◌-◌, ◌≤◌, length}
 use Rattle.replay.proofs.images.rows_of.Given as goal
 

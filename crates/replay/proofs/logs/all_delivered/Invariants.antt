@@ -1,4 +1,5 @@
--- Each turn leaves a row less. Assumes nothing.
+-- `replay::logs::all_delivered`: each turn leaves a row less.
+-- Assumes nothing.
 use Rattle.std.proofs.Common.{◌≤◌, length}
 use Rattle.replay.proofs.logs.all_delivered.Given as goal
 

@@ -1,4 +1,5 @@
--- 72 digits a segment, 64 segments at most. Assumes nothing.
+-- `replay::logs::segments_same`: 72 digits a segment, 64 segments at most.
+-- Assumes nothing.
 use Rattle.std.proofs.Common.{◌≡◌, ◌-◌, ◌*◌, ◌≤◌}
 use Rattle.replay.proofs.logs.segments_same.Given as goal
 
