@@ -1,7 +1,11 @@
 // The range among the arguments: two numbers, or none.
+// A number is decimal digits and nothing else, and 64 bits hold it.
+ghost use Rattle.std.specs.Prelude.{◌≤◌, length};
+
+use std::env::{Env, FillError};
 
 // Whether the arguments are as they must be; whether there is a range, and which.
-#[derive(Drop)]
+#[derive(Clone, Copy)]
 pub(crate) struct Range {
     pub(crate) good: bool,
     pub(crate) given: bool,
@@ -10,7 +14,7 @@ pub(crate) struct Range {
 }
 
 // A number, and whether digits spelled it.
-#[derive(Drop)]
+#[derive(Clone, Copy)]
 struct Number {
     good: bool,
     value: u64,
@@ -62,16 +66,37 @@ fn decimal(digits: &[u8]) -> Number {
     number
 }
 
+// Argument i over the front of out; its length, 0 where there is none or it is longer.
+pub(crate) fn argument(env: &impl Env, i: usize, out: &mut [u8]) -> usize
+    ensures { result ≤ length out.new }
+{
+    match env.arg(i, out) {
+        Ok(n) => n,
+        Err(_) => 0,
+    }
+}
+
+// How many arguments the program was started with, its own name among them.
+fn argument_count(env: &impl Env) -> usize {
+    let mut byte = [0u8; 1];
+    for i in 0..usize::MAX {
+        if let Err(FillError::NotPresent) = env.arg(i, &mut byte) {
+            return i;
+        }
+    }
+    usize::MAX
+}
+
 // Argument i as a number.
-fn numbered(i: usize) -> Number {
+fn numbered(env: &impl Env, i: usize) -> Number {
     let mut digits = [0u8; 32];
-    let n = os::arg(i, &mut digits);
+    let n = argument(env, i, &mut digits);
     decimal(&digits[..n])
 }
 
 // Arguments 3 and 4, which are given both or not at all, and are the last.
-pub(crate) fn asked() -> Range {
-    let count = os::arg_count();
+pub(crate) fn asked(env: &impl Env) -> Range {
+    let count = argument_count(env);
     if count == 3 {
         return Range {
             good: true,
@@ -80,8 +105,8 @@ pub(crate) fn asked() -> Range {
             end: 0,
         };
     }
-    let start = numbered(3);
-    let end = numbered(4);
+    let start = numbered(env, 3);
+    let end = numbered(env, 4);
     Range {
         good: (count == 5) & start.good & end.good,
         given: true,

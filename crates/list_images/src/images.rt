@@ -4,13 +4,14 @@ use crate::arguments::Range;
 use crate::{lines, named, say};
 use image_rows::Rows;
 use segment::ImageRow;
+use std::io;
 use walk::{Scan, Step};
 
 const LAST_ID: u64 = 18446744073709551615;
 
 // What the walk over an image, or over all, found: document 01's number of the first fault, and the ids before it. `newest` is where the
 // last record starts in its image, `at` where the walk ended; `stopped` says that it ended at E's record, with bytes behind it.
-#[derive(Drop)]
+#[derive(Clone, Copy)]
 pub(crate) struct Walked {
     pub(crate) refusal: u32,
     pub(crate) at: u64,
@@ -22,7 +23,7 @@ pub(crate) struct Walked {
 }
 
 // The walk so far: what it found, and the state that the next image begins with.
-#[derive(Drop)]
+#[derive(Clone, Copy)]
 struct Progress {
     all: Walked,
     scan: Scan,
@@ -126,51 +127,60 @@ fn image<'a>(area: &'a [u8], row: ImageRow, c: u64) -> &'a [u8] {
 }
 
 // What the walk saw of an image that it looked at.
-fn say_seen(walked: Walked) {
-    named(b",", walked.records);
-    say(b" records");
+fn say_seen(rt: &impl Print, walked: Walked) -> io::Result<()> {
+    named(rt, b",", walked.records)?;
+    say(rt, b" records")?;
     if walked.records != 0 {
-        named(b",", walked.first);
-        named(b" to", walked.last);
-        named(b", the newest at byte", walked.newest);
+        named(rt, b",", walked.first)?;
+        named(rt, b" to", walked.last)?;
+        named(rt, b", the newest at byte", walked.newest)?;
     }
     if walked.refusal != 0 {
-        named(b"; refused", walked.refusal as u64);
-        named(b" at byte", walked.at);
+        named(rt, b"; refused", walked.refusal as u64)?;
+        named(rt, b" at byte", walked.at)?;
     }
     if walked.stopped {
-        named(b"; not looked at from byte", walked.at);
-        say(b" on");
+        named(rt, b"; not looked at from byte", walked.at)?;
+        say(rt, b" on")?;
     }
+    Ok(())
 }
 
 // What an image holds by itself, where it does not follow what was walked before it.
-fn say_alone(walked: Walked, image: &[u8], range: Range) {
+fn say_alone(rt: &impl Print, walked: Walked, image: &[u8], range: Range) -> io::Result<()> {
     if (walked.refusal == 0) | (walked.records != 0) {
-        return;
+        return Ok(());
     }
     let answer = walk_image(image, range, walk::start());
     let alone = seen(answer, image.len() as u64);
     if alone.records != 0 {
-        named(b"; by itself it has", alone.first);
-        named(b" to", alone.last);
+        named(rt, b"; by itself it has", alone.first)?;
+        named(rt, b" to", alone.last)?;
     }
+    Ok(())
 }
 
 // The line of an image.
-fn say_image(name: &[u8], row: ImageRow, walked: Walked, image: &[u8], range: Range) {
-    named(b"slot", row.slot as u64);
-    say(b": ");
-    say(name);
-    named(b",", row.size);
-    say(b" bytes");
+fn say_image(
+    rt: &impl Print,
+    name: &[u8],
+    row: ImageRow,
+    walked: Walked,
+    image: &[u8],
+    range: Range,
+) -> io::Result<()> {
+    named(rt, b"slot", row.slot as u64)?;
+    say(rt, b": ")?;
+    say(rt, name)?;
+    named(rt, b",", row.size)?;
+    say(rt, b" bytes")?;
     if walked.stopped & (walked.records == 0) {
-        say(b", not looked at");
+        say(rt, b", not looked at")?;
     } else {
-        say_seen(walked);
+        say_seen(rt, walked)?;
     }
-    say_alone(walked, image, range);
-    say(b"\n");
+    say_alone(rt, walked, image, range)?;
+    say(rt, b"\n")
 }
 
 // Both walks, one image behind the other; behind the first fault nothing counts.
@@ -199,26 +209,34 @@ fn joined(all: Walked, one: Walked) -> Walked {
 
 // The walk over one image more, and its line.
 fn with_image(
+    rt: &impl Print,
     before: Progress,
     names: &[u8],
     row: ImageRow,
     range: Range,
     area: &[u8],
     c: u64,
-) -> Progress {
+) -> io::Result<Progress> {
     let bytes = image(area, row, c);
     let answer = walk_image(bytes, range, before.scan);
     let one = seen(answer, row.size);
     let name = lines::name(lines::line(names, row.slot as usize));
-    say_image(name, row, one, bytes, range);
-    Progress {
+    say_image(rt, name, row, one, bytes, range)?;
+    Ok(Progress {
         all: joined(before.all, one),
         scan: carried(answer),
-    }
+    })
 }
 
 // Walks the images, in the order of their segment ids, and says what each holds.
-pub(crate) fn walk(names: &[u8], images: Rows, range: Range, area: &[u8], c: u64) -> Walked {
+pub(crate) fn walk(
+    rt: &impl Print,
+    names: &[u8],
+    images: Rows,
+    range: Range,
+    area: &[u8],
+    c: u64,
+) -> io::Result<Walked> {
     let arranged = image_rows::arrange(images.count as u64, c, images);
     let rows = arranged.rows;
     let mut progress = begun(arranged.refusal);
@@ -227,8 +245,8 @@ pub(crate) fn walk(names: &[u8], images: Rows, range: Range, area: &[u8], c: u64
         if rows.count <= i {
             break;
         }
-        progress = with_image(progress, names, rows.rows[i], range, area, c);
+        progress = with_image(rt, progress, names, rows.rows[i], range, area, c)?;
         i += 1;
     }
-    progress.all
+    Ok(progress.all)
 }

@@ -1,4 +1,5 @@
 // The lines of the names that are handed in.
+// Assumes nothing.
 ghost use Rattle.std.specs.Prelude.{◌≤◌, length};
 
 // Where the byte stands first from `at` on; the length where it does not.

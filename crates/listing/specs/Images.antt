@@ -1,5 +1,5 @@
 -- The image rows of a log's segments. Assumes nothing.
-use Rattle.std.specs.Prelude.{List, map}
+use Rattle.std.specs.Prelude.{map}
 use Rattle.segment.specs.declared.Segment.{Segment}
 use Rattle.seglog.specs.declared.Log.{Log}
 use Rattle.segment.specs.declared.ImageRow.{ImageRow}

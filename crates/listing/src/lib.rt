@@ -1,5 +1,7 @@
 // What the programs print of a log, put into a lent buffer: the line of its live range and one line an index row, as specimen 13 has them.
 // And the image rows of a log's segments.
+#![tactic(auto)]
+
 ghost use Rattle.std.specs.Prelude.{◌≡◌, ◌+◌, ◌≤◌, length, drop};
 ghost use Rattle.text.specs.Texts.{Put};
 ghost use Rattle.listing.specs.Lines.{kept_line, row_words, row_line, row_lines};

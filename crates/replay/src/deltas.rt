@@ -1,4 +1,5 @@
 // Lines D and E: deltas decoded, and encoded again.
+// Assumes nothing.
 use crate::fields;
 use delta::{Decoding, Row, Table};
 use delta_encode::Encoded;
@@ -86,7 +87,7 @@ pub(crate) fn decoded(line: &[u8], input: &mut [u8], rows: &mut [u8]) -> bool {
 // Whether the input, decoded and encoded again, is these bytes; or the refusal is the departure.
 fn encodes_as(input: &[u8], bytes: &[u8], departure: u32) -> bool {
     let decoded = delta::decode(input);
-    let mut out = io::large_buffer();
+    let mut out = [0u8; 65536];
     let answer = delta_encode::encode(decoded.table, input, &mut out);
     let Encoded::Written(size) = answer else {
         return delta_encode::encoded_number(answer) == departure;

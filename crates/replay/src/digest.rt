@@ -1,4 +1,5 @@
 // The digest of the recorded sample: FNV-1a, of 64 bits.
+// Assumes nothing.
 
 pub(crate) const START: u64 = 14695981039346656037;
 

@@ -1,4 +1,5 @@
 // The words of a line, as oracle/README.md has them: separated by one space; bytes and numbers in hex, refusals in decimal.
+// Assumes nothing.
 ghost use Rattle.std.specs.Prelude.{◌<◌};
 
 // Where the byte stands first from `at` on; the length where it does not.

@@ -1,4 +1,5 @@
 // Lines B, I and J: pieces of images laid into the area, and recoveries from image rows that the line gives.
+// Assumes nothing.
 use crate::logs::Turn;
 use crate::{fields, logs};
 use image_rows::Rows;

@@ -1,4 +1,5 @@
 // Lines L, A, O, R, N and V: histories of a log, with the log and its segments' bytes compared after each call.
+// Assumes nothing.
 use crate::{digest, fields};
 use image_rows::Rows;
 use seglog::{Log, Logged};
@@ -6,7 +7,7 @@ use seglog_append::Appended;
 use segment::Segment;
 
 // Whether the answer was the recorded one, and the log after it.
-#[derive(Drop)]
+#[derive(Clone, Copy)]
 pub(crate) struct Turn {
     pub(crate) good: bool,
     pub(crate) log: Log,

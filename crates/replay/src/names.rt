@@ -1,4 +1,5 @@
 // Lines W and P: names written and read.
+// Assumes nothing.
 use crate::fields;
 use segment_filename::{Formatted, Parsed};
 
@@ -7,7 +8,7 @@ pub(crate) fn written(line: &[u8], prefix: &mut [u8], name: &mut [u8]) -> bool {
     let n = fields::bytes(fields::word(line, 2), &mut *prefix);
     let id = fields::short_hex(fields::word(line, 3));
     let m = fields::bytes(fields::word(line, 4), &mut *name);
-    let mut out = io::buffer();
+    let mut out = [0u8; 4096];
     let answer = segment_filename::format(slices::front(prefix, n), id, &mut out);
     let departure = fields::departure(line);
     let Formatted::Length(size) = answer else {

@@ -1,6 +1,8 @@
 // 40 to 44: deltas.
+// Assumes nothing.
 use crate::met;
 use delta::{Row, Table};
+use std::io;
 
 fn decode(input: &[u8]) -> u32 {
     let decoded = delta::decode(input);
@@ -33,16 +35,17 @@ fn encode(table: Table) -> u32 {
     delta_encode::encoded_number(delta_encode::encode(table, b"", &mut out))
 }
 
-pub(crate) fn deltas() -> bool {
+pub(crate) fn deltas(rt: &impl Print) -> io::Result<bool> {
     let repeated = twice();
-    let early = met(decode(&[1, 0, 0]), 40, b"delta input ends early");
-    let over = met(decode(&[1, 1, 0, 0]), 41, b"over 256 keys");
-    let duplicate = met(decode(&repeated), 42, b"duplicate key");
+    let early = met(rt, decode(&[1, 0, 0]), 40, b"delta input ends early")?;
+    let over = met(rt, decode(&[1, 1, 0, 0]), 41, b"over 256 keys")?;
+    let duplicate = met(rt, decode(&repeated), 42, b"duplicate key")?;
     let outside = met(
+        rt,
         encode(table(257)),
         43,
         b"table over 256 rows or a value outside its slice",
-    );
-    let short = met(encode(table(1)), 44, b"output short");
-    early & over & duplicate & outside & short
+    )?;
+    let short = met(rt, encode(table(1)), 44, b"output short")?;
+    Ok(early & over & duplicate & outside & short)
 }

@@ -1,7 +1,10 @@
 // Specimen 13: K 2, C = M = 8192; append nothing, then abc; recover 1..2. Writes exactly its three lines.
-use libc::STDOUT_FILENO;
+// Assumes nothing; a write that fails ends it with that error.
+#![tactic(auto)]
 
-fn main() {
+use std::io;
+
+fn main(rt: HostRuntime) -> io::Result<()> {
     let mut area = [0u8; 16384];
     let mut index = [0u64; 8];
     let fresh = seglog::new_log(2, 8192, 8192, &mut area);
@@ -12,5 +15,5 @@ fn main() {
     let mut lines = [0u8; 256];
     let kept = listing::kept(recovered.log, &mut lines, 0);
     let end = listing::rows(&index, recovered.rows, &mut lines, kept);
-    io::write_all(STDOUT_FILENO, slices::front(&lines, end));
+    rt.write_all(slices::front(&lines, end))
 }

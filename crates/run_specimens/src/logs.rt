@@ -1,7 +1,9 @@
 // Specimens 1, 2, 3, 13's last sentence and 14: the log.
+// Assumes nothing.
 use crate::holds;
 use recovery::Recovered;
 use seglog::Log;
+use std::io;
 
 // The head's size after a first append of this payload.
 fn size_after(payload: &[u8]) -> u64 {
@@ -13,33 +15,35 @@ fn size_after(payload: &[u8]) -> u64 {
     head.size
 }
 
-pub(crate) fn sizes() -> bool {
+pub(crate) fn sizes(rt: &impl Print) -> io::Result<bool> {
     let longer = [0u8; 4085];
     let page = holds(
+        rt,
         1,
         b"payload 4084: size",
         size_after(slices::front(&longer, 4084)),
         4096,
-    );
-    let pages = holds(2, b"payload 4085: size", size_after(&longer), 8192);
-    let nothing = holds(3, b"payload 0: size", size_after(b""), 4096);
-    page & pages & nothing
+    )?;
+    let pages = holds(rt, 2, b"payload 4085: size", size_after(&longer), 8192)?;
+    let nothing = holds(rt, 3, b"payload 0: size", size_after(b""), 4096)?;
+    Ok(page & pages & nothing)
 }
 
-pub(crate) fn specimen_13() -> bool {
+pub(crate) fn specimen_13(rt: &impl Print) -> io::Result<bool> {
     let mut area = [0u8; 16384];
     let log = samples::filled(&mut area, 8192, 3);
     let head = log.segs[1];
-    let opened = holds(13, b"a third append opens slot", head.slot as u64, 1);
+    let opened = holds(rt, 13, b"a third append opens slot", head.slot as u64, 1)?;
     let full = samples::filled(&mut area, 8192, 4);
     let fifth = seglog_append::append(full, &mut area, b"abc");
     let refused = holds(
+        rt,
         13,
         b"a fifth one-page append meets",
         fifth.refusal as u64,
         6,
-    );
-    opened & refused
+    )?;
+    Ok(opened & refused)
 }
 
 // How many segments prune oldest to n leaves.
@@ -62,37 +66,41 @@ fn recover(log: Log, area: &mut [u8], s: u64, e: u64) -> Recovered {
     )
 }
 
-pub(crate) fn specimen_14() -> bool {
+pub(crate) fn specimen_14(rt: &impl Print) -> io::Result<bool> {
     let mut area = [0u8; 16384];
     let log = samples::filled(&mut area, 8192, 4);
     let none = holds(
+        rt,
         14,
         b"prune oldest to 2 drops nothing: segments",
         left_by(log, &mut area, 2),
         2,
-    );
+    )?;
     let first = holds(
+        rt,
         14,
         b"prune oldest to 3 drops the first: segments",
         left_by(log, &mut area, 3),
         1,
-    );
+    )?;
     let late = holds(
+        rt,
         14,
         b"range 3..5: refusal",
         recover(log, &mut area, 3, 5).refusal as u64,
         22,
-    );
+    )?;
     let zero = holds(
+        rt,
         14,
         b"range 0..3: refusal",
         recover(log, &mut area, 0, 3).refusal as u64,
         11,
-    );
+    )?;
     let inner = recover(log, &mut area, 2, 3);
     let recovered = inner.log;
     let head = recovered.segs[1];
-    let kept = holds(14, b"recovering 2..3 keeps", recovered.count as u64, 2);
-    let size = holds(14, b"recovering 2..3: head size", head.size, 4096);
-    none & first & late & zero & kept & size
+    let kept = holds(rt, 14, b"recovering 2..3 keeps", recovered.count as u64, 2)?;
+    let size = holds(rt, 14, b"recovering 2..3: head size", head.size, 4096)?;
+    Ok(none & first & late & zero & kept & size)
 }

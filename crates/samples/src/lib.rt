@@ -1,4 +1,7 @@
 // A small log for the programs that run specimens and refusals: K 2, C 8192, records of a page each.
+// Assumes nothing.
+#![tactic(auto)]
+
 ghost use Rattle.std.specs.Prelude.{◌≡◌};
 ghost use Rattle.samples.specs.Sample.{filled_by};
 

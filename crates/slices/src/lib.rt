@@ -1,4 +1,7 @@
 // Parts of a slice that are always there: what lies past its end is left out. And the room of slots. For the programs.
+// Assumes nothing.
+#![tactic(auto)]
+
 ghost use Rattle.std.specs.Prelude.{◌≡◌, ◌*◌, take, drop, ltb};
 ghost use Rattle.lists.specs.Choice.{pick};
 

@@ -1,5 +1,8 @@
 // Text put together in a lent buffer, piece behind piece, for the programs. What does not fit is dropped, and the rest of the buffer stays.
-ghost use Rattle.std.specs.Prelude.{◌≡◌, ◌++◌, ◌+◌, min, length};
+// A number is put as its decimal digits. Assumes nothing.
+#![tactic(auto)]
+
+ghost use Rattle.std.specs.Prelude.{◌≡◌, ◌++◌, ◌+◌, ◌<◌, min, length, drop};
 ghost use Rattle.text.specs.Decimal.{decimal_of};
 ghost use Rattle.text.specs.Texts.{Put};
 
@@ -24,13 +27,29 @@ pub fn put(out: &mut [u8], at: usize, bytes: &[u8]) -> usize
     end_of(out.len(), at, bytes.len())
 }
 
+// Puts the decimal digits of v at the end of 20 bytes, the last one first; where they begin.
+fn digits_into(v: u64, digits: &mut [u8; 20]) -> usize
+    ensures begins { result < 20 }
+    ensures digits { drop result digits.new ≡ decimal_of v }
+{
+    let mut i: usize = 19;
+    let mut rest = v;
+    while 10 <= rest {
+        digits[i] = b'0' + (rest % 10) as u8;
+        rest /= 10;
+        i -= 1;
+    }
+    digits[i] = b'0' + rest as u8;
+    i
+}
+
 // Writes a number in decimal from `at` on; where it ends.
 pub fn put_number(out: &mut [u8], at: usize, v: u64) -> usize
     ensures { Put at (decimal_of v) out.old result out.new }
 {
     let mut digits = [0u8; 20];
-    let n = io::decimal(v, &mut digits);
-    put(out, at, &digits[..n])
+    let begin = digits_into(v, &mut digits);
+    put(out, at, &digits[begin..])
 }
 
 // Writes a word and a number from `at` on; where the number ends.
