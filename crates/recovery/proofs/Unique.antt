@@ -1,6 +1,6 @@
 -- Two answers that the contract of `recover` allows are equal, with every byte of the area and every word of the index; so are two answers
--- of `read_rows`. Each is stated of what a caller learns from the generated contract; of `read_rows`, which is proved by hand, that is
--- written here and shown to be what its contract ensures. Assumes nothing.
+-- of `read_rows`. Each is stated of what a caller learns from the generated contract; of `read_rows` that is written here and shown to be
+-- what its contract ensures. Assumes nothing.
 use mathlib.Core.Path.{◌≡◌, refl}
 use mathlib.Core.List.{List}
 use Prim.Native.Nat.{ℕ}
@@ -20,7 +20,7 @@ abbrev pub ReadRowsLearnt : Account read-rows.ended
 ReadRowsLearnt κs a r e = r ≡ rows_of a.0.now
 
 -- its generated contract says this, and no more
-pub read-rows-says : SaysAll read-rows.ended (λ M. read-rows.clauses {M = M}) ReadRowsLearnt
+pub read-rows-says : SaysAll read-rows.ended (λ M 𝓤. read-rows.clauses {M = M} {𝓤 = 𝓤}) ReadRowsLearnt
 read-rows-says M 𝓤 𝓛 mem run κs a g r e = (refl, refl)
 
 pub read-rows-unique : UniqueAnswer ReadRowsLearnt

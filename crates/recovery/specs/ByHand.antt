@@ -1,5 +1,5 @@
--- Of a function that is lent a slice of records (`read_rows`, `iflughan_recover`) a contract is generated, and no account of what a caller
--- learns from it; the proof is by hand. An account that is written instead is held to the contract by `SaysAll`. Assumes nothing.
+-- What a caller learns of a function that is lent a slice of records (`read_rows`, `iflughan_recover`), written out as an account; `SaysAll`
+-- holds such an account to the generated contract: the contract asks nothing and ensures the account, no less and no more. Assumes nothing.
 use Rattle.std.specs.Prelude.{◌≡◌}
 use seplogic.Ra.Ura.{Ura}
 use base.Logic.{SProp, emp}
