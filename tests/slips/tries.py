@@ -87,7 +87,9 @@ def check(folder):
 
 
 def lanes():
-    """How many checks run side by side: one a processor, as many as memory holds."""
+    """How many checks run side by side: RT_JOBS, as rt has it, or one a processor, as many as memory holds."""
+    if os.environ.get("RT_JOBS", "").isdigit():
+        return max(1, int(os.environ["RT_JOBS"]))
     memory = re.search(r"MemAvailable:\s+(\d+)", pathlib.Path("/proc/meminfo").read_text())
     return max(1, min(len(os.sched_getaffinity(0)), 1024 * int(memory[1]) // MEMORY))
 
