@@ -45,7 +45,7 @@ RecoverLearnt κs (k, (c, (m, (area, (images, (s, (e, (index, _)))))))) r x =
     x.1.1.1.1.1.1.1.0.now
 
 -- its generated contract says this, and no more
-pub iflughan-recover-says : SaysAll recover.ended (λ M. recover.clauses {M = M}) RecoverLearnt
+pub iflughan-recover-says : SaysAll recover.ended (λ M 𝓤. recover.clauses {M = M} {𝓤 = 𝓤}) RecoverLearnt
 iflughan-recover-says M 𝓤 𝓛 mem run κs a g r x = (refl, refl)
 
 pub iflughan-recover-unique : UniqueBoth RecoverLearnt {M = List ℕ × List ℕ}

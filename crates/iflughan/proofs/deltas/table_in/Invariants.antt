@@ -1,0 +1,20 @@
+-- `iflughan::table_in` meets its contract. The loop's invariant: the first i rows are those of the table that is lent.
+-- The measure is the number of rows left. Assumes nothing.
+use Prim.Native.Nat.{◌≤◌, ◌-◌}
+use mathlib.Core.List.{[], map}
+use mathlib.Core.Path.{◌≡◌, refl, ap, ◌∙◌}
+use lib.ListN.{length, take, length-set}
+use native.Mathlib.Omega.{arith}
+use borrow.Author.Rules.{rules}
+use Rattle.lists.proofs.Arrays.{unmapped}
+use Rattle.delta.proofs.TablePlacing.{keys-turn}
+use Rattle.iflughan.specs.Deltas.{row_in}
+use Rattle.iflughan.specs.declared.DeltaRow.{DeltaRow}
+use Rattle.iflughan.proofs.DeltasRows.{all-rows}
+use Rattle.iflughan.proofs.deltas.table_in.Given as given
+
+abbrev pub invariant-loop-i : given.invariant-loop-i
+invariant-loop-i l = (l.i ≤ 256) × (length l.t.rows ≡ 256) × (length l.rows ≡ 256) × (take l.i l.rows ≡ map row_in (take l.i l.t.rows))
+
+abbrev pub decreases-loop-i : given.decreases-loop-i
+decreases-loop-i l = 256 - l.i

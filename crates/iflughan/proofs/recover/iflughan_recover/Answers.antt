@@ -1,0 +1,19 @@
+-- `iflughan::recover::iflughan_recover` meets its contract: recovery from the array that was read is recovery from the lent rows.
+-- Assumes nothing.
+use Prim.Native.Nat.{ℕ}
+use mathlib.Core.Path.{◌≡◌, ap, subst, ◌∙◌}
+use lib.ListN.{length}
+use Rattle.image_rows.specs.declared.Rows.{Rows}
+use Rattle.image_rows.specs.Rows.{listed_of}
+use Rattle.recovery.specs.Recovery.{Recovery, recovery_of}
+use Rattle.recovery.proofs.RecoveryRows.{read_same}
+use Rattle.iflughan.specs.Recover.{Recovers}
+use Rattle.iflughan.proofs.recover.iflughan_recover.Goals as goal
+
+pub returns : goal.returns
+returns c =
+    let a = c.args in
+    let same = ap (λ (z : Rows). recovery_of a.k a.c a.m a.area.now (listed_of z) a.s a.e (length a.index.now)) c.read_rows-rows.ensures
+    ∙ read_same a.k a.c a.m a.area.now a.images.now a.s a.e (length a.index.now) in
+    subst (λ (o : Recovery). Recovers o a.area.now a.index.now c.recover_out.result c.recover_out.new.area c.recover_out.new.index) same
+    c.recover_out.ensures
