@@ -18,12 +18,12 @@ NOT_THESE = re.compile(r"docs/(PORT|port-)")
 # Definitions and laws that port.py turned.
 MORE = """
 afterOf bitOf cutAt formatOf gapOf judgeOf leBytes liveOf nameOf noRow numberAt openedOf opensOf partOf rangeOf rowLines rowOf rowsOf startOf tableOf targetOf
-viewOf walkOf writtenBy zeroOf goes-on le-read walk-end walk-more write-read sort-sorted
+viewOf walkOf writtenBy zeroOf le-read walk-end walk-more write-read sort-sorted
 """.split()
 
 
 def main():
-    table = {n: names.respelled(n) for n in names.NAMES} | {n: names.respelled(n).replace("-", "_") for n in MORE}
+    table = {n: names.respelled(n) for n in names.NAMES} | {n: names.respelled(n).replace("-", "_") for n in MORE} | {"goes-on": "goes_on_lem"}
     crates = set()
     for file in glob.glob("crates/*/s*/**/*.*t", recursive=True) + glob.glob("crates/*/proofs/**/*.antt", recursive=True):
         crates.update(names.TOKEN.findall(open(file).read()))

@@ -121,6 +121,8 @@ def work(room, tasks, wrong):
             log.parent.mkdir(parents=True, exist_ok=True)
             log.write_text(said)
             log.with_suffix(".of").write_text(made_of)
+        # (what the checks kept takes much of the disk)
+        shutil.rmtree(folder / "out/incremental", ignore_errors=True)
 
 
 def try_all(edits):
