@@ -117,7 +117,7 @@ look-tells img n at = go (found_at img n at) refl
     go (Record p) r =
         by p (ltb (length img) p.end) (eqb p.id n) (record-placed (length img) at (header_at img at) p r) refl
 
--- what the other two answers come to, by the tag that a branch is told
+-- what the other two answers come to, by the equation that a branch is told
 pub only-lost : (o : Look) → ((x : ℕ) × (o ≡ Other x)) ⊎ (o ≡ Nothing) → only o ≡ lost
 only-lost o is = ⊎_elim (λ h. ap only h.1) (λ h. ap only h) is
 

@@ -189,7 +189,7 @@ unfolding record_at
 record-short size pos h f = simp f
 
 module _ (size pos : ℕ) (fits : header_fits size pos ≡ true) where
-  -- what the refusal's branch of a `let .. else` is told, the answer's tag, gives 17 or 18
+  -- what the refusal's branch of a `let .. else` is told, that the answer is no header, gives 17 or 18
   pub record-refused : (h : HeaderAnswer) → ((k : RecordHeader) → h ≡ Header k → ⊥) → Refused (header_number h) ≡ record_at size pos h
   unfolding record_at
   record-refused (Header k) o = absurd (o k refl)
