@@ -77,10 +77,10 @@ def main():
             turn(f, table)
 
 
-if sys.argv[1:] == ['--names']:
+if __name__ == '__main__' and sys.argv[1:] == ['--names']:
     found = set()
     for f in files('*', 'specs/**/*.antt', 'proofs/**/*.antt'):
         found.update(m.group(1) for m in map(HEAD.match, open(f)) if m)
     print(*sorted(n for n in found if respelled(n) != n))
-else:
+elif __name__ == '__main__':
     main()

@@ -1,4 +1,4 @@
-//! The original Rust, built from its own files, unchanged (oracle/build links them into target/oracle/original).
+//! The original Rust, built from its own files, unchanged (oracle/build lays them into target/oracle/original).
 //! Its answers in the terms of document 01: a value, or the refusal number that its error text or its panic stands for.
 
 use std::collections::HashMap;

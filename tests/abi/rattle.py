@@ -9,7 +9,7 @@ import re
 from reading import CRATES, fail, parts, typed, without_comments
 
 TOP = "iflughan"
-EXPORTED = r'#\[no_mangle\]\s*pub extern "C" fn (\w+)(?:<.*?>)?\((.*?)\) -> ([\w:]+)'
+EXPORTED = r'#\[unsafe\(no_mangle\)\]\s*pub extern "C" fn (\w+)(?:<.*?>)?\((.*?)\) -> ([\w:]+)'
 
 
 class Rattle:
@@ -69,7 +69,7 @@ class Rattle:
         return constant.group(1) if constant else fail(f"crate {crate}: no length {text}")
 
     def fields(self, crate, name):
-        found = re.search(rf"(#\[repr\(C\)\]\s*)?(?:pub )?struct {name} \{{(.*?)\}}", self.sources[crate], re.S)
+        found = re.search(rf"(#\[repr\(C\)\]\s*)?(?:#\[derive\([^)]*\)\]\s*)?(?:pub )?struct {name} \{{(.*?)\}}", self.sources[crate], re.S)
         if not found or not found.group(1):
             fail(f"{name} of crate {crate} crosses the interface and is not #[repr(C)]")
         return [typed(field) for field in parts(found.group(2))]
