@@ -1,6 +1,6 @@
 -- Decoding an accepted encoding, with anything behind it, gives the same keys, marks and value bytes in ascending order, and consumes
 -- just the encoding. Its statement: specs/Promised.antt. Assumes nothing.
-use Prim.Native.Nat.{ℕ, suc, ◌+◌, ◌-◌, ◌<◌, ◌≤◌}
+use Prim.Native.Nat.{ℕ, suc, ◌+◌, ◌<◌, ◌≤◌}
 use mathlib.Core.Bool.{Bool, true, false}
 use mathlib.Core.List.{List, [], ◌∷◌, ◌++◌, append_assoc}
 use mathlib.Core.Path.{◌≡◌, refl, ap, sym, subst, ◌∙◌}

@@ -1,6 +1,6 @@
 -- What a table says, wherever its values lie: key, mark and value bytes of each row. This is what a round trip keeps.
 -- Assumes nothing.
-use Rattle.std.specs.Prelude.{ℕ, ◌<◌, Bool, List, [], map, length}
+use Rattle.std.specs.Prelude.{ℕ, ◌<◌, Bool, List, [], map}
 use Rattle.lists.specs.Choice.{pick}
 use Rattle.lists.specs.Each.{Every}
 use Rattle.delta.specs.Table.{rows_of}

@@ -21,7 +21,6 @@ use Rattle.seglog_append.proofs.DecidingFree.{free-most, free-good}
 use Rattle.lists.specs.Outcome.{Outcome, refused, done, either}
 use Rattle.lists.specs.Distinct.{fresh}
 use Rattle.lists.proofs.Distinct.{distinct_more, snoc-distinct}
-use Rattle.lists.specs.Each.{all}
 use Rattle.segment.specs.Segment.{slot_number}
 use Rattle.segment.specs.Chain.{Chain}
 use Rattle.segment.proofs.Chain.{chain_more, chain-keep}

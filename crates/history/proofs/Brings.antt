@@ -3,7 +3,7 @@
 use mathlib.Core.Bool.{true}
 use mathlib.Core.List.{List}
 use mathlib.Core.Path.{◌≡◌, ap}
-use Prim.Native.Nat.{ℕ, ◌*◌, ◌-◌, ◌≤◌}
+use Prim.Native.Nat.{ℕ, ◌*◌, ◌≤◌}
 use lib.ListN.{length}
 use Rattle.seglog.specs.View.{View, log_of, head_of}
 use Rattle.segment.specs.declared.Segment.{Segment}
@@ -16,7 +16,6 @@ use Rattle.history.specs.Demand.{ids_in, rows_for}
 use Rattle.history.proofs.Deliver.{delivered, items}
 use Rattle.history.proofs.Invariant.{Holds}
 use Rattle.history.proofs.Scans.{Has}
-use Rattle.recovery.specs.Recovery as R
 
 -- what recovering s to e from the later log gives, against the earlier one; f has what was last appended up to it
 pub record Brings (a : View) (area : List ℕ) (z : View) (area' : List ℕ) (f : ℕ → List ℕ) (rows : List ImageRow)

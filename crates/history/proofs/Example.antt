@@ -7,7 +7,6 @@ use native.Mathlib.Omega.{arith}
 use lib.ListN.{replicate, length}
 use Rattle.lists.specs.Each.{all, linked}
 use Rattle.lists.specs.Distinct.{distinct}
-use Rattle.page.proofs.Page.{whole}
 use Rattle.page.specs.Page.{padded_end, multiple_from}
 use Rattle.record.specs.Record.{record_room}
 use Rattle.seglog.specs.View.{log_of, plain_of, zeros_of}
@@ -20,9 +19,7 @@ use Rattle.seglog_append.specs.Appending.{append_log}
 use Rattle.recovery.specs.Recovery.{recovery_answer, recovery_area, recovery_index}
 use Rattle.history.specs.Demand.{earlier, Asked, row_for, payload_at, recovering}
 use Rattle.history.specs.History.{Held, append, run, last_under, begun, told}
-use Rattle.history.proofs.Prunes.{new}
 use Rattle.history.proofs.Theorem.{demand3}
-use types.Run.{from}
 
 -- one slot of one page, of any content
 abbrev area : List ℕ

@@ -13,7 +13,6 @@ use Rattle.segment.specs.declared.Segment.{Segment}
 use Rattle.segment.specs.Chain.{Chain}
 use Rattle.history.proofs.Slots.{Stored}
 use Rattle.lists.specs.Distinct.{distinct}
-use Rattle.lists.specs.Each.{all}
 
 -- the range is (0, 0) and the next segment's id 1 where there is none; else it starts in the first one
 abbrev pub Live : ℕ → ℕ → ℕ → List Segment → Type 0

@@ -3,7 +3,7 @@
 use mathlib.Core.Bool.{Bool, true, false}
 use mathlib.Core.List.{List, [], ◌∷◌, ◌++◌}
 use mathlib.Core.Path.{◌≡◌, refl, ◌∙◌, ap, sym, subst}
-use Prim.Native.Nat.{◌≤◌, ◌-◌, ◌+◌, ◌<◌, ℕ}
+use Prim.Native.Nat.{◌≤◌, ◌+◌, ◌<◌, ℕ}
 use native.Mathlib.Omega.{arith}
 use lib.ListN.{length}
 use borrow.Author.Tests.{ne_eqb}

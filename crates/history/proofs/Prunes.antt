@@ -21,7 +21,6 @@ use Rattle.segment.specs.Chain.{Chain}
 use Rattle.segment.proofs.Chain.{chain_more}
 use Rattle.lists.specs.Outcome.{Outcome, refused, done}
 use Rattle.lists.proofs.Distinct.{distinct-front, distinct_more, snoc-distinct}
-use Rattle.lists.specs.Each.{all}
 use Rattle.seglog_prune.specs.Drop.{drop_old, drop_new, keep_at}
 use Rattle.seglog_prune.specs.declared.Newest.{Newest}
 use Rattle.seglog_prune.specs.Cut.{cut_at, find_cut, cut_in}

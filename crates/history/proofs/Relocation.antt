@@ -13,7 +13,6 @@ use Rattle.lists.proofs.Bools.{and_both}
 use Rattle.lists.proofs.Cases.{by-test}
 use Rattle.lists.proofs.Distinct.{distinct-at}
 use Rattle.lists.proofs.Splice.{part-part, splice-before, splice-slot}
-use Rattle.lists.specs.Each.{all}
 use Rattle.segment.specs.declared.Segment.{Segment}
 use Rattle.segment.specs.declared.ImageRow.{ImageRow}
 use Rattle.segment.specs.Segment.{no_segment, no_row, image_of}

@@ -21,7 +21,6 @@ use Rattle.recovery_walk.specs.Rows.{rows_all, pen_of}
 use Rattle.recovery_walk.specs.Scan.{scan_of, judged, live_count}
 use Rattle.segment.specs.declared.ImageRow.{ImageRow}
 use Rattle.image_rows.specs.ImageRows.{sort_rows, rows_fit, lowest_zero, one_apart}
-use Rattle.lists.specs.Outcome.{kept}
 use Rattle.recovery.specs.Recovery.{recovery_of, recovered, outcome_of, one_zero}
 use Rattle.recovery.specs.Keeping.{kept_of}
 use Rattle.recovery.proofs.Recovery.{recovered-rows}

@@ -1,7 +1,7 @@
 -- Demand 3: run any appends and prunes, refused ones too, from a new log; let appends follow; recovering s..e, inside the live range
 -- of the earlier moment, from the later log's own images delivers the payloads last appended under s to e, each once, in order, and
 -- the log that pruning would have left at the earlier moment. The proof: proofs/Theorem.antt. Assumes nothing.
-use Rattle.std.specs.Prelude.{◌≡◌, List, [], ◌∷◌, ◌++◌, ℕ, ◌+◌, ◌-◌, ◌*◌, ◌≤◌, ◌<◌, length, get_or, take, drop}
+use Rattle.std.specs.Prelude.{◌≡◌, List, [], ◌∷◌, ℕ, ◌+◌, ◌-◌, ◌*◌, ◌≤◌, ◌<◌, length, get_or, take, drop}
 pub use Rattle.lists.specs.AnyOrder.{AnyOrder}
 use Rattle.segment.specs.declared.Segment.{Segment}
 use Rattle.seglog.specs.declared.Log.{Log}

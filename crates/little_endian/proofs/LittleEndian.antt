@@ -18,9 +18,7 @@ use Rattle.lists.proofs.Outcome.{refused-is-not-done, done-injective, determined
 use Rattle.lists.proofs.Splice.{splice-fits, splice-before, splice-behind}
 use Rattle.lists.proofs.Cases.{by-test, by_order}
 use Rattle.little_endian.specs.declared.U32At.{U32At}
-use Rattle.little_endian.specs.declared.U32At.TheVariants as U32At
 use Rattle.little_endian.specs.declared.U64At.{U64At}
-use Rattle.little_endian.specs.declared.U64At.TheVariants as U64At
 use Rattle.little_endian.specs.LittleEndian.{le_bytes, le_at, stand_at, number_at, u32_outcome, u64_outcome, u32_by, u32_at}
 use Rattle.little_endian.specs.Promised.{WriteRead, LeRead}
 

@@ -4,9 +4,7 @@ use Rattle.std.specs.Prelude.{Bool, not, List, [], ◌∷◌, ℕ, zero, suc, �
 use Rattle.lists.specs.Choice.{◌⇒◌, first}
 use Rattle.lists.specs.Outcome.{Outcome, refused, done}
 use Rattle.little_endian.specs.declared.U32At.{U32At}
-use Rattle.little_endian.specs.declared.U32At.TheVariants as U32At
 use Rattle.little_endian.specs.declared.U64At.{U64At}
-use Rattle.little_endian.specs.declared.U64At.TheVariants as U64At
 
 -- the n lowest bytes of v, the lowest first
 unfoldable pub le_bytes : ℕ → ℕ → List ℕ

@@ -18,7 +18,7 @@ use Rattle.segment.specs.Segment.{no_segment, slot_number}
 use Rattle.lists.proofs.Distinct.{distinct-rest, marks, mark-none, mark-some}
 use Rattle.lists.proofs.Bools.{both_ways, and_both, both-and, not_so}
 use Rattle.lists.specs.Each.{all, linked}
-use Rattle.lists.specs.Distinct.{fresh, distinct}
+use Rattle.lists.specs.Distinct.{distinct}
 use Rattle.seglog.proofs.View.{listed-length, listed_at}
 use Rattle.seglog.proofs.Fit.{seg-is}
 use Rattle.seglog.proofs.Chain.{chain-parts}

@@ -1,11 +1,10 @@
 -- Looking for the cut: what one header tells, the search's turns as laws, and what is known of a cut that was found. Assumes nothing.
 use mathlib.Core.Path.{◌≡◌, refl, sym, ap, subst, ◌∙◌}
 use mathlib.Core.Bool.{Bool, true, false}
-use mathlib.Core.List.{List, [], ◌∷◌}
+use mathlib.Core.List.{List}
 use mathlib.Core.Logic.{◌⊎◌, ⊎_elim}
 use Prim.Native.Nat.{ℕ, ◌+◌, ◌-◌, ◌%◌, ◌≤◌, ◌<◌}
 use native.Mathlib.Omega.{arith}
-use denote.Enum.Declared.{tag_of}
 use lib.ListN.{length}
 use lib.Dec.{ltb, eqb, lit<}
 use borrow.Author.Tests.{lt-ltb, le-ltb, ltb-true, ltb-false, eq-eqb, ne_eqb}
@@ -28,7 +27,6 @@ use Rattle.segment.specs.Chain.{NewestFits}
 use Rattle.seglog_prune.specs.declared.Newest.{Newest}
 use Rattle.seglog_prune.specs.declared.Look.{Look}
 use Rattle.seglog_prune.specs.declared.Look.TheVariants.{Here, Other, Nothing}
-use Rattle.seglog_prune.specs.contracts.Look.{the_type}
 use Rattle.seglog_prune.specs.Cut.{lost, look_by, look_at, only, cut_at, turn_of, cut_turn, find_cut, cut_in}
 
 -- ---- the record at a place
@@ -119,7 +117,7 @@ look-tells img n at = go (found_at img n at) refl
     go (Record p) r =
         by p (ltb (length img) p.end) (eqb p.id n) (record-placed (length img) at (header_at img at) p r) refl
 
--- what the other two answers come to, by the tag that a branch is told
+-- what the other two answers come to, by the equation that a branch is told
 pub only-lost : (o : Look) → ((x : ℕ) × (o ≡ Other x)) ⊎ (o ≡ Nothing) → only o ≡ lost
 only-lost o is = ⊎_elim (λ h. ap only h.1) (λ h. ap only h) is
 

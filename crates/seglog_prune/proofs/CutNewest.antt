@@ -1,7 +1,6 @@
 -- The look at a segment's newest header, condition by condition: 10 exactly where the length, the payload's end or the id is wrong.
 -- Assumes nothing.
-use mathlib.Core.List.{List}
-use Prim.Native.Nat.{ℕ, ◌+◌, ◌-◌}
+use Prim.Native.Nat.{◌+◌, ◌-◌}
 use native.Mathlib.Omega.{arith}
 use mathlib.Core.Path.{◌≡◌}
 use mathlib.Core.Bool.{true, false}

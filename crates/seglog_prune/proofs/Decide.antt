@@ -2,7 +2,7 @@
 -- Assumes nothing.
 use mathlib.Core.Path.{◌≡◌, refl, sym, ap, ◌∙◌}
 use mathlib.Core.Bool.{Bool, true, false, not, ◌&&◌}
-use mathlib.Core.List.{List, [], ◌∷◌}
+use mathlib.Core.List.{List}
 use mathlib.Core.Logic.{◌⊎◌, ⊎_elim}
 use Prim.Native.Nat.{ℕ, ◌*◌, ◌≤◌, ◌<◌}
 use native.Mathlib.Omega.{arith}
@@ -24,7 +24,6 @@ use Rattle.seglog_prune.specs.Decide.{early_of}
 use Rattle.seglog_prune.specs.Prune.{Pruned, pruned, outcome_of, prune_of, prune_answer, prune_area}
 use Rattle.seglog_prune.specs.Steps.{settled_of}
 use Rattle.seglog_prune.specs.Promised.{EarlyEmpties, EarlyKeeps}
-use Rattle.seglog_prune.specs.contracts.Early.{the_type}
 
 -- ---- a log by its entries
 

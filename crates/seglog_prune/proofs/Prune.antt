@@ -4,7 +4,6 @@ use mathlib.Core.Bool.{true}
 use mathlib.Core.List.{List, [], ◌∷◌, ◌++◌, append_assoc}
 use Prim.Native.Nat.{ℕ, suc, ◌+◌, ◌-◌, ◌*◌, ◌≤◌, ◌<◌}
 use native.Mathlib.Omega.{arith}
-use denote.Enum.Declared.{tag_of}
 use lib.ListN.{
   length,
   get_or,
@@ -48,7 +47,6 @@ use Rattle.seglog_prune.specs.Prune.{
   prune_area,
 }
 use Rattle.seglog_prune.specs.Steps.{settled_of, ended_log}
-use Rattle.seglog_prune.specs.contracts.Early.{the_type}
 use Rattle.seglog_prune.proofs.Decide.{early-inner, plain-few, early-settles}
 use Rattle.seglog_prune.proofs.PruneInside.{InRange, in-range, slot-inside}
 

@@ -1,9 +1,8 @@
 -- The specimens hold, all by computation. Assumes nothing.
-use mathlib.Core.Path.{◌≡◌, refl, ◌∙◌}
+use mathlib.Core.Path.{◌≡◌, refl}
 use Prim.Native.Nat.{ℕ, ◌+◌, ◌-◌, ◌*◌, ◌/◌}
 use lib.Dec.{lit<}
 use Rattle.lists.specs.Splice.{splice}
-use Rattle.page.specs.Page.{padded_end}
 use Rattle.page.proofs.Page.{pad-rounded}
 use Rattle.record.specs.Record.{record_room}
 use Rattle.little_endian.specs.LittleEndian.{le_at, le_bytes, number_at, u32_at}

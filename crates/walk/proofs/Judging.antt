@@ -2,14 +2,11 @@
 -- Assumes nothing.
 use mathlib.Core.Path.{◌≡◌, refl, sym, ap, ◌∙◌}
 use mathlib.Core.Bool.{Bool, true, false, ◌&&◌, not, and-false}
-use mathlib.Core.List.{[], ◌∷◌}
 use Prim.Native.Nat.{ℕ, zero, suc, ◌+◌, ◌-◌, ◌≤◌, ◌<◌}
 use native.Mathlib.Numerals.{add-one, sub-one}
 use native.Mathlib.Omega.{arith}
 use lib.Dec.{ltb, leb, eqb, eqb-suc-suc, lit<}
 use borrow.Author.Tests.{eq-eqb, ne_eqb, ltb-true, ltb-false, lt-ltb, le-ltb, leb-true, le-leb, lt-leb, eqb-true, eqb-false}
-use types.Run.{OneOf}
-use denote.Enum.Declared.{tag_of}
 use Rattle.lists.specs.Choice.{pick}
 use Rattle.lists.proofs.Bools.{clash, zero-is-not-one, and_both, both_ways}
 use Rattle.lists.proofs.Cases.{by-test}
@@ -19,7 +16,6 @@ use Rattle.record.specs.declared.HeaderAnswer.{HeaderAnswer}
 use Rattle.record.specs.declared.HeaderAnswer.TheVariants.{Header, Short, TooLong}
 use Rattle.record.specs.Record.{max_payload, header_number}
 use Rattle.record.proofs.Record.{header}
-use Rattle.record.specs.contracts.HeaderAnswer.{the_type}
 use Rattle.walk.specs.declared.Scan.{Scan}
 use Rattle.walk.specs.declared.Placed.{Placed}
 use Rattle.walk.specs.declared.RecordAnswer.TheVariants.{Record, Refused}
@@ -193,7 +189,7 @@ unfolding record_at
 record-short size pos h f = simp f
 
 module _ (size pos : ℕ) (fits : header_fits size pos ≡ true) where
-  -- what the refusal's branch of a `let .. else` is told, the answer's tag, gives 17 or 18
+  -- what the refusal's branch of a `let .. else` is told, that the answer is no header, gives 17 or 18
   pub record-refused : (h : HeaderAnswer) → ((k : RecordHeader) → h ≡ Header k → ⊥) → Refused (header_number h) ≡ record_at size pos h
   unfolding record_at
   record-refused (Header k) o = absurd (o k refl)

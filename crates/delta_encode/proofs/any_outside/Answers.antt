@@ -1,13 +1,9 @@
 -- `delta_encode::any_outside` meets its contract. The loop's invariant: the rows from i on decide.
 -- The measure is the number of rows left. Assumes nothing.
-use Prim.Native.Nat.{◌≤◌, ◌-◌}
 use mathlib.Core.Bool.{false}
 use mathlib.Core.List.{[]}
-use mathlib.Core.Logic.{⊎_elim}
 use mathlib.Core.Path.{◌≡◌, refl, sym, ◌∙◌}
-use lib.ListN.{length, take, drop}
 use native.Mathlib.Omega.{arith}
-use Rattle.lists.specs.Each.{any}
 use Rattle.lists.proofs.Arrays.{unmapped}
 use Rattle.delta.specs.Table.{erased, row_at}
 use Rattle.delta_encode.specs.Bytes.{outside}
@@ -37,9 +33,9 @@ loop-i-preserved c =
     let a = c.args in
     let y : outside a.n (row_at a.t c.loop-i.i) ≡ false =
     elim c.if-row.branch [
-    then-row+else-limit-row+else-limit-row-2 w ↦ outside-within a.n (row_at a.t c.loop-i.i) w.if-row.true
-        (omega (arith, w.if-limit-row.false, w.if-limit-row-2.false))
-    | else-row w ↦ outside-absent a.n (row_at a.t c.loop-i.i) w.if-row.false
+      | then-row+else-limit-row+else-limit-row-2 w ↦ outside-within a.n (row_at a.t c.loop-i.i) w.if-row.true
+          (omega (arith, w.if-limit-row.false, w.if-limit-row-2.false))
+      | else-row w ↦ outside-absent a.n (row_at a.t c.loop-i.i) w.if-row.false
     ] in (
       omega arith,
       c.loop-i.invariant.1,

@@ -1,18 +1,10 @@
 -- `delta_encode::any_outside` meets its contract. The loop's invariant: the rows from i on decide.
 -- The measure is the number of rows left. Assumes nothing.
 use Prim.Native.Nat.{◌≤◌, ◌-◌}
-use mathlib.Core.Bool.{false}
-use mathlib.Core.List.{[]}
-use mathlib.Core.Logic.{⊎_elim}
-use mathlib.Core.Path.{◌≡◌, refl, sym, ◌∙◌}
+use mathlib.Core.Path.{◌≡◌}
 use lib.ListN.{length, take, drop}
-use native.Mathlib.Omega.{arith}
 use Rattle.lists.specs.Each.{any}
-use Rattle.lists.proofs.Arrays.{unmapped}
-use Rattle.delta.specs.Table.{erased, row_at}
 use Rattle.delta_encode.specs.Bytes.{outside}
-use Rattle.delta_encode.proofs.BytesOutside.{any-yes, any-no, any-end, outside-yes, outside-absent, outside-within}
-use borrow.Author.Rules.{rules}
 use Rattle.delta_encode.proofs.any_outside.Given as given
 
 abbrev pub invariant-loop-i : given.invariant-loop-i

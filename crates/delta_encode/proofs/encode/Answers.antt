@@ -1,6 +1,6 @@
 -- `delta_encode::encode` meets its contract: each answer by the tests that led there, and the four parts one behind the other.
 -- Assumes nothing.
-use Prim.Native.Nat.{ℕ, ◌≤◌, ◌-◌}
+use Prim.Native.Nat.{ℕ, ◌≤◌}
 use mathlib.Core.List.{List}
 use mathlib.Core.Path.{ap, sym, ◌∙◌}
 use lib.ListN.{length}
@@ -11,7 +11,6 @@ use Rattle.delta.proofs.TableArranged.{arranged-clash}
 use Rattle.delta_encode.specs.Bytes.{bytes_of}
 use Rattle.delta_encode.proofs.BytesWhole.{Known, known, arranged-few, four-parts, ends-many, ends-outside, ends-twins, ends-short}
 use Rattle.delta_encode.proofs.BytesWhole.{ends-written}
-use borrow.Author.Rules.{rules}
 use Rattle.delta_encode.proofs.encode.Goals as goal
 
 pub returns-then-t-gt256 : goal.returns-then-t-gt256

@@ -1,14 +1,14 @@
 -- `delta_encode::measure` meets its contract. The loop's invariant: the sums are those of the rows from i on.
 -- The measure is i. Assumes nothing.
-use Prim.Native.Nat.{◌≤◌, ◌+◌, ◌-◌, ◌*◌}
+use Prim.Native.Nat.{◌+◌, ◌-◌}
 use mathlib.Core.List.{[]}
 use mathlib.Core.Path.{◌≡◌}
-use lib.ListN.{length, take, drop}
+use lib.ListN.{length}
 use native.Mathlib.Nat.{le_refl}
 use Rattle.lists.proofs.Arrays.{unmapped}
 use Rattle.delta.specs.Table.{erased, row_at}
 use Rattle.lists.proofs.Bounds.{left-falls, left-within, none_left, some_left}
-use Rattle.delta_encode.specs.Bytes.{erases, reinstates, size_of, Sized}
+use Rattle.delta_encode.specs.Bytes.{erases, reinstates, size_of}
 use Rattle.delta_encode.proofs.Bounds.{rows-within, widened, last-below, last_fits}
 use Rattle.delta_encode.proofs.Bounds.{count-start, erases-fit, reinstates-fit, erase-counted, reinstate-counted, none_more}
 use Rattle.delta_encode.proofs.Bounds.{one_more}

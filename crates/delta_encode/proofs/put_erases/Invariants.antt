@@ -1,19 +1,10 @@
 -- `delta_encode::put_erases` meets its contract. The loop's invariant: what the rows from i on give is left to be written.
 -- The measure is the number of rows left. Assumes nothing.
-use Prim.Native.Nat.{◌≤◌, ◌<◌, ◌+◌, ◌-◌, ◌^◌}
-use mathlib.Core.List.{[]}
-use mathlib.Core.Path.{◌≡◌, refl, subst}
+use Prim.Native.Nat.{◌≤◌, ◌-◌}
+use mathlib.Core.Path.{◌≡◌}
 use lib.ListN.{length, take, drop}
-use native.Mathlib.Omega.{arith}
-use Rattle.lists.proofs.Arrays.{unmapped}
-use Rattle.delta.specs.Table.{erased, rows_of, row_at}
-use Rattle.lists.proofs.Bounds.{index_below, index-falls, index-fits, index-up}
 use Rattle.delta_encode.specs.Bytes.{concat, erase_bytes}
-use Rattle.delta_encode.proofs.Bounds.{row_fits, rows-within, key-end, key_fits}
-use Rattle.delta_encode.proofs.BytesWritten.{Writing, writing_start, writing_step, writing-room}
-use Rattle.delta_encode.proofs.BytesWritten.{writing-end, concat-end, erase-absent}
-use Rattle.delta_encode.proofs.BytesWritten.{erase-present}
-use borrow.Author.Rules.{rules}
+use Rattle.delta_encode.proofs.BytesWritten.{Writing}
 use Rattle.delta_encode.proofs.put_erases.Given as given
 
 abbrev pub invariant-loop-i : given.invariant-loop-i

@@ -48,8 +48,11 @@ pub returns : goal.returns
 returns c =
     let key-long : length c.args.key ≡ 32 = search rules in
     let a = c.args in
-    let same = part-size a.from a.size in record { value = row-end a.at a.size; out_after = splice-three a.out.now a.at a.key (le_bytes 4 a.size) (part a.from a.size a.values.now)
+    let same = part-size a.from a.size in record {
+      value = row-end a.at a.size;
+      out_after = splice-three a.out.now a.at a.key (le_bytes 4 a.size) (part a.from a.size a.values.now)
           c.copy_into.new.out c.write_u32.new.out c.copy_into-2.new.out
           key-long (le-bytes-length 4 a.size)
           c.copy_into.ensures c.write_u32.ensures (c.copy_into-2.ensures ∙
-          ap (λ (n : ℕ). splice (a.at + 36) (part a.from n a.values.now) c.write_u32.new.out) same) }
+          ap (λ (n : ℕ). splice (a.at + 36) (part a.from n a.values.now) c.write_u32.new.out) same);
+    }

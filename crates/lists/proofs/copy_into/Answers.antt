@@ -1,11 +1,10 @@
 -- `lists::copy_into` meets its contract. The loop's invariant: the first i bytes are written, by `paste`, and n of them have room.
 -- Assumes nothing.
 use mathlib.Core.Path.{◌≡◌, refl, ap, ◌∙◌}
-use Prim.Native.Nat.{◌≤◌, ◌-◌, min}
+use Prim.Native.Nat.{◌-◌, min}
 use native.Mathlib.Omega.{arith}
 use lib.ListN.{length, length-set}
 use lib.Seq.{paste, paste-zero}
-use borrow.Author.Rules.{rules}
 use Rattle.lists.proofs.SpliceWrites.{paste-splice, paste-turn}
 use Rattle.lists.proofs.copy_into.Goals as goal
 

@@ -1,12 +1,9 @@
 -- `lists::copy_into` meets its contract. The loop's invariant: the first i bytes are written, by `paste`, and n of them have room.
 -- Assumes nothing.
-use mathlib.Core.Path.{◌≡◌, refl, ap, ◌∙◌}
+use mathlib.Core.Path.{◌≡◌}
 use Prim.Native.Nat.{◌≤◌, ◌-◌, min}
-use native.Mathlib.Omega.{arith}
-use lib.ListN.{length, length-set}
-use lib.Seq.{paste, paste-zero}
-use borrow.Author.Rules.{rules}
-use Rattle.lists.proofs.SpliceWrites.{paste-splice, paste-turn}
+use lib.ListN.{length}
+use lib.Seq.{paste}
 use Rattle.lists.proofs.copy_into.Given as goal
 
 abbrev pub invariant-loop-i : goal.invariant-loop-i

@@ -1,13 +1,9 @@
 -- `lists::zero_fill` meets its contract. The loop's invariant: the first i bytes are written, by `paste`, and n of them have room.
 -- Assumes nothing.
-use mathlib.Core.Path.{◌≡◌, refl, ap, sym, ◌∙◌}
-use mathlib.Core.List.{List}
-use Prim.Native.Nat.{ℕ, ◌≤◌, ◌+◌, ◌-◌, min}
-use native.Mathlib.Omega.{arith}
-use lib.ListN.{length, set, replicate, length-set, length-replicate, get_or-replicate}
-use lib.Seq.{paste, paste-zero}
-use borrow.Author.Rules.{rules}
-use Rattle.lists.proofs.SpliceWrites.{paste-splice, paste-turn}
+use mathlib.Core.Path.{◌≡◌}
+use Prim.Native.Nat.{◌≤◌, ◌-◌, min}
+use lib.ListN.{length, replicate}
+use lib.Seq.{paste}
 use Rattle.lists.proofs.zero_fill.Given as goal
 
 abbrev pub invariant-loop-i : goal.invariant-loop-i

@@ -2,7 +2,6 @@
 -- Assumes nothing.
 use mathlib.Core.Path.{refl}
 use Rattle.little_endian.specs.LittleEndian.{le_bytes}
-use borrow.Author.Rules.{rules}
 use Rattle.little_endian.proofs.bytes_u32.Goals as goal
 
 pub returns : goal.returns

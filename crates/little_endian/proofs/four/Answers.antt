@@ -1,7 +1,6 @@
 -- `little_endian::four` meets its contract: four bytes as a sum.
 -- Assumes nothing.
 use Rattle.little_endian.proofs.LittleEndian.{le_four}
-use borrow.Author.Rules.{rules}
 use Rattle.little_endian.proofs.four.Goals as goal
 
 pub returns : goal.returns

@@ -1,10 +1,9 @@
 -- `little_endian::read_u32` meets its contract.
 -- Assumes nothing.
 use mathlib.Core.Path.{ap, sym, ◌∙◌}
-use borrow.Author.Tests.{leb-true, not-true, not-false}
+use borrow.Author.Tests.{leb-true}
 use Rattle.lists.specs.Outcome.{done}
 use Rattle.little_endian.proofs.LittleEndian.{number-refuses-40, number-reads}
-use borrow.Author.Rules.{rules}
 use Rattle.little_endian.proofs.read_u32.Goals as goal
 
 pub returns-then-not-stand : goal.returns-then-not-stand

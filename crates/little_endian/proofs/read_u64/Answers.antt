@@ -5,10 +5,9 @@ use mathlib.Core.Path.{◌≡◌, sym, ◌∙◌}
 use mathlib.Core.Bool.{true}
 use Prim.Native.Nat.{◌+◌, ◌≤◌}
 use lib.ListN.{length}
-use borrow.Author.Tests.{leb-true, not-true, not-false}
+use borrow.Author.Tests.{leb-true}
 use Rattle.little_endian.proofs.LittleEndian.{number-refuses-40, number-halves}
 use Rattle.little_endian.specs.LittleEndian.{stand_at}
-use borrow.Author.Rules.{rules}
 use Rattle.little_endian.proofs.read_u64.Goals as goal
 
 pub returns-then-not-stand : goal.returns-then-not-stand

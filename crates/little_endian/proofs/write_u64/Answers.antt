@@ -2,7 +2,6 @@
 -- Assumes nothing.
 use mathlib.Core.Path.{ap, ◌∙◌}
 use Rattle.lists.specs.Splice.{splice}
-use borrow.Author.Rules.{rules}
 use Rattle.little_endian.proofs.write_u64.Goals as goal
 
 pub returns : goal.returns

@@ -3,7 +3,6 @@
 use mathlib.Core.Path.{sym}
 use lib.Dec.{lit<}
 use Rattle.page.proofs.Page.{pad-rounded}
-use borrow.Author.Rules.{rules}
 use Rattle.page.proofs.padded_end.Goals as goal
 
 pub returns : goal.returns

@@ -1,7 +1,6 @@
 -- `payload::payload` meets its contract: a good row's place is handed back, and of another row an empty part.
 -- Assumes nothing.
 use mathlib.Core.Path.{sym, ap, ◌∙◌}
-use borrow.Author.Rules.{rules}
 use Rattle.payload.specs.Row.{row_number}
 use Rattle.payload.proofs.Row.{row-refused, row-good, payload-good, payload-none}
 use Rattle.payload.proofs.payload.Goals as goal

@@ -3,7 +3,6 @@
 use mathlib.Core.Path.{sym, ap, ◌∙◌}
 use mathlib.Core.List.{List}
 use Prim.Native.Nat.{ℕ}
-use borrow.Author.Rules.{rules}
 use Rattle.delta.specs.Reading.{decoded_of}
 use Rattle.payload.specs.Row.{row_number}
 use Rattle.payload.specs.PayloadDelta.{no_delta, delta_answer}

@@ -4,7 +4,6 @@ use mathlib.Core.Path.{◌≡◌, ap}
 use Prim.Native.Nat.{ℕ, ◌+◌, ◌-◌, ◌*◌}
 use native.Mathlib.Omega.{arith}
 use lib.ListN.{take, drop}
-use borrow.Author.Rules.{rules}
 use Rattle.payload.proofs.place.Goals as goal
 
 pub returns : goal.returns

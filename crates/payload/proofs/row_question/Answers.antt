@@ -1,7 +1,6 @@
 -- `payload::row_question` meets its contract: each `return` is a case of the definition.
 -- Assumes nothing.
 use mathlib.Core.Path.{sym, ◌∙◌}
-use borrow.Author.Tests.{not-true, not-false}
 use Rattle.payload.proofs.Row.{row-unshaped, row-outside, row-is-good}
 use Rattle.payload.proofs.row_question.Goals as goal
 

@@ -1,14 +1,12 @@
 -- `record::read_header` meets its contract: each way out is one case of the definition.
 -- Assumes nothing.
 use mathlib.Core.Path.{◌≡◌, sym, ap, ◌∙◌}
-use mathlib.Core.List.{List}
-use Prim.Native.Nat.{ℕ, ◌+◌, ◌-◌, ◌≤◌}
+use Prim.Native.Nat.{◌+◌, ◌-◌, ◌≤◌}
 use native.Mathlib.Omega.{arith}
 use lib.ListN.{length}
 use Rattle.little_endian.specs.LittleEndian.{le_at, u32_outcome, u64_outcome}
 use Rattle.little_endian.proofs.LittleEndian.{number_is, number-stands}
 use Rattle.record.proofs.Record.{header-refuses-17, header-refuses-18, header-reads}
-use borrow.Author.Rules.{rules}
 use Rattle.record.proofs.read_header.Goals as goal
 
 pub returns-then-img-pos : goal.returns-then-img-pos

@@ -7,7 +7,6 @@ use Rattle.lists.specs.Splice.{splice}
 use Rattle.lists.proofs.Splice.{splice-join}
 use Rattle.little_endian.specs.LittleEndian.{le_bytes}
 use Rattle.record.specs.Record.{header_bytes}
-use borrow.Author.Rules.{rules}
 use Rattle.record.proofs.write_header.Goals as goal
 
 pub returns : goal.returns

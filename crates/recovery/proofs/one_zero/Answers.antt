@@ -1,6 +1,5 @@
 -- `recovery::one_zero` meets its contract: the two tests, joined as the definition joins them.
 -- Assumes nothing.
-use borrow.Author.Rules.{rules}
 use Rattle.recovery.specs.Recovery.{one_zero}
 use Rattle.recovery.proofs.one_zero.Goals as goal
 

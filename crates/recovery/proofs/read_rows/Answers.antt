@@ -1,8 +1,6 @@
 -- `recovery::read_rows` meets its contract: by the laws of the first i rows in proofs/RowsTurns.antt.
 -- Assumes nothing.
-use Prim.Native.Nat.{ℕ, ◌+◌}
 use mathlib.Core.Path.{◌≡◌, sym, ap, ◌∙◌}
-use mathlib.Core.List.{List}
 use native.Mathlib.Omega.{arith}
 use lib.ListN.{length, get_or}
 use Rattle.segment.specs.Segment.{no_row}
@@ -19,10 +17,11 @@ loop-i-init c = (omega arith, c.no_rows-acc.ensures ∙ sym (up-zero c.args.rows
 pub loop-i-preserved : goal.loop-i-preserved
 loop-i-preserved c =
     let l = c.loop-i in
-    let xs = c.args.rows.now in
-    (omega (arith, c.loop-i-test.true),
-    c.put_row-acc.ensures ∙ ap (λ a. put_row a l.i (get_or xs l.i no_row)) l.invariant.1
-    ∙ sym (up_next xs l.i c.loop-i-test.true (omega (arith, c.if-rows-gt64.false))))
+    let xs = c.args.rows.now in (
+      omega (arith, c.loop-i-test.true),
+      c.put_row-acc.ensures ∙ ap (λ a. put_row a l.i (get_or xs l.i no_row)) l.invariant.1
+          ∙ sym (up_next xs l.i c.loop-i-test.true (omega (arith, c.if-rows-gt64.false))),
+    )
 
 pub returns : goal.returns
 returns c =

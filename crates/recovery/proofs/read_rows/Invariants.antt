@@ -1,6 +1,6 @@
 -- `recovery::read_rows` meets its contract. The loop's invariant: i is at most the number of rows, and acc holds the first i of them.
 -- The measure is the number of rows left. Assumes nothing.
-use Prim.Native.Nat.{ℕ, ◌≤◌, ◌-◌}
+use Prim.Native.Nat.{◌≤◌, ◌-◌}
 use mathlib.Core.Path.{◌≡◌}
 use lib.ListN.{length}
 use Rattle.recovery.proofs.RowsTurns.{up_to}

@@ -1,5 +1,4 @@
 -- `empty_log` meets its contract. Assumes nothing.
-use borrow.Author.Rules.{rules}
 use Rattle.seglog.proofs.empty_log.Goals as goal
 
 pub returns : goal.returns

@@ -1,31 +1,16 @@
 -- `fits` meets its contract. The first loop's invariant: the answer on the unused entries is that of those from `unused` on. The
 -- second's: the segments from i on have been seen, and their slots are marked (`Seen`). The measures are the entries left. Assumes nothing.
 use mathlib.Core.Path.{◌≡◌, refl, sym, ◌∙◌}
-use mathlib.Core.Bool.{true}
 use Prim.Native.Nat.{◌-◌, ◌≤◌, ◌<◌}
 use lib.Dec.{lit<, lit≤}
-use lib.ListN.{length, get_or, drop}
-use borrow.Author.Tests.{not-true, not-false}
+use lib.ListN.{length, get_or}
 use Rattle.segment.specs.Segment.{no_segment}
-use Rattle.seglog.specs.View.{zeros_of}
 use Rattle.lists.proofs.Bounds.{index_below, index-falls, index-fits, some_left, none_left, left-falls, left_below}
-use Rattle.segment.proofs.Bounds.{entry-fits}
 use Rattle.seglog.proofs.Bounds.{entry-inside, entries-end, last-below}
 use Rattle.lists.proofs.Arrays.{unmapped}
 use Rattle.lists.proofs.Distinct.{marks}
-use Rattle.seglog.proofs.Fit.{Sized, sized-is, sized-count, fit-sizes, fit-dirty, fit-listed, fit-ends, ends_by}
-use Rattle.seglog.proofs.FitTurns.{
-  zeros-found,
-  zeros-turn,
-  zeros-end,
-  Seen,
-  seen_none,
-  seen-slot,
-  seen-bad,
-  seen_twice,
-  seen_more,
-  seen_all,
-}
+use Rattle.seglog.proofs.Fit.{sized-is, sized-count, fit-sizes, fit-dirty, fit-listed, fit-ends, ends_by}
+use Rattle.seglog.proofs.FitTurns.{zeros-found, zeros-turn, zeros-end, seen_none, seen-slot, seen-bad, seen_twice, seen_more, seen_all}
 use borrow.Author.Rules.{rules}
 use Rattle.seglog.proofs.fits.Goals as goal
 

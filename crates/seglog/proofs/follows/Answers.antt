@@ -1,6 +1,5 @@
 -- `follows` meets its contract: each test of a number is its own. Assumes nothing.
 use Rattle.lists.proofs.Bools.{and-2}
-use borrow.Author.Rules.{rules}
 use Rattle.seglog.specs.Chain.{goes_on}
 use Rattle.seglog.proofs.follows.Goals as goal
 

@@ -1,6 +1,5 @@
 -- `is_zero` meets its contract: each test of a number is its own. Assumes nothing.
 use Rattle.lists.proofs.Bools.{and-6}
-use borrow.Author.Rules.{rules}
 use Rattle.seglog.proofs.is_zero.Goals as goal
 
 pub returns : goal.returns

@@ -1,9 +1,7 @@
 -- `new_log` meets its contract: each return is a way of its definition. Assumes nothing.
 use mathlib.Core.Path.{refl, sym, ◌∙◌}
 use lib.ListN.{length}
-use borrow.Author.Tests.{not-true, not-false}
 use Rattle.seglog.proofs.New.{new-refuses-1, new-empty}
-use borrow.Author.Rules.{rules}
 use Rattle.seglog.proofs.new_log.Goals as goal
 
 pub returns-then-not-sizes_fit : goal.returns-then-not-sizes_fit

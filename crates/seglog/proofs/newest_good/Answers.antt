@@ -3,7 +3,6 @@ use mathlib.Core.Path.{◌∙◌}
 use Prim.Native.Nat.{◌+◌, ◌-◌}
 use native.Mathlib.Omega.{arith}
 use lib.Dec.{leb}
-use borrow.Author.Rules.{rules}
 use borrow.Author.Tests.{leb-true, le-leb}
 use Rattle.lists.proofs.Bools.{and-2, not_so, same_test}
 use Rattle.seglog.specs.Chain.{newest_of}

@@ -5,7 +5,6 @@ use native.Mathlib.Omega.{arith}
 use lib.Dec.{eqb}
 use borrow.Author.Tests.{ne_eqb, eqb-true, eq-eqb}
 use Rattle.lists.proofs.Bools.{same_test}
-use borrow.Author.Rules.{rules}
 use Rattle.seglog.proofs.next_to.Goals as goal
 
 pub returns-then-b-eq0 : goal.returns-then-b-eq0

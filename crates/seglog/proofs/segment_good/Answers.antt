@@ -1,7 +1,6 @@
 -- `segment_good` meets its contract: each test of a number is its own. Assumes nothing.
 use Rattle.seglog.specs.Chain.{seg_of}
 use Rattle.lists.proofs.Bools.{and-2, and-6}
-use borrow.Author.Rules.{rules}
 use Rattle.seglog.proofs.segment_good.Goals as goal
 
 pub returns : goal.returns

@@ -1,8 +1,6 @@
 -- `sizes_fit` meets its contract. K x C is formed once K and C have passed. Assumes nothing.
 use mathlib.Core.Path.{sym, ◌∙◌}
 use native.Mathlib.Omega.{arith}
-use borrow.Author.Tests.{not-true, not-false}
-use borrow.Author.Rules.{rules}
 use Rattle.seglog.specs.New.{roomy_of}
 use Rattle.seglog.proofs.Fit.{sizes-are, sizes-room}
 use Rattle.seglog.proofs.sizes_fit.Goals as goal

@@ -1,5 +1,5 @@
 -- `append` meets its contract: what was decided is answered or done. Assumes nothing.
-use Rattle.std.proofs.Common.{sym, ap, ◌∙◌, rules}
+use Rattle.std.proofs.Common.{sym, ap, ◌∙◌}
 use Rattle.seglog_append.specs.Deciding.{decision_of}
 use Rattle.seglog_append.specs.Appending.{append_answer, append_area}
 use Rattle.seglog_append.proofs.Appending.{append-refused}

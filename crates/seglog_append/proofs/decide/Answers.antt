@@ -1,7 +1,6 @@
 -- `decide` meets its contract: each return is a way of its definition, and both ways to a segment meet in the one that was chosen.
 -- Assumes nothing.
-use Rattle.std.proofs.Common.{◌≡◌, ◌<◌, length, sym, ◌∙◌, ⊎_elim, arith, rules}
-use borrow.Author.Tests.{not-true, not-false}
+use Rattle.std.proofs.Common.{◌≡◌, ◌<◌, length, sym, ◌∙◌, arith, rules}
 use Rattle.lists.proofs.Arrays.{unmapped}
 use Rattle.record.specs.Record.{record_room}
 use Rattle.seglog.specs.View.{view_of}

@@ -1,5 +1,5 @@
 -- `grown` meets its contract. Assumes nothing.
-use Rattle.std.proofs.Common.{ℕ, ◌+◌, set, ap, ◌∙◌, rules}
+use Rattle.std.proofs.Common.{ℕ, ◌+◌, set, ap, ◌∙◌}
 use Rattle.segment.specs.declared.Segment.{Segment}
 use Rattle.segment.specs.Segment.{ended_at}
 use Rattle.seglog.specs.declared.Log.{Log}

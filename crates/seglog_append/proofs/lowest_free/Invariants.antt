@@ -1,13 +1,10 @@
 -- `lowest_free` meets its contract. The first loop's invariant: the slots of the segments from i on are marked. The second's: the
 -- answer is that of a search from `free` on. The measures are the segments and the slots left. Assumes nothing.
-use Rattle.std.proofs.Common.{◌≡◌, ℕ, ◌-◌, ◌≤◌, List, get_or, take, sym, refl, ap, ◌∙◌, arith, rules}
-use Rattle.lists.proofs.Arrays.{unmapped}
-use Rattle.lists.proofs.Distinct.{marks, mark-none, mark-some}
+use Rattle.std.proofs.Common.{◌≡◌, ◌-◌, ◌≤◌, take}
+use Rattle.lists.proofs.Distinct.{marks}
 use Rattle.segment.specs.Segment.{slot_number}
-use Rattle.seglog.specs.declared.Log.{Log}
 use Rattle.seglog_append.specs.Deciding.{free_from}
-use Rattle.seglog_append.proofs.DecidingFree.{Marked, marked-none, marked-slot, marked_more, marked_all}
-use Rattle.seglog_append.proofs.DecidingFree.{free-start, free-turn, free-found, free-none}
+use Rattle.seglog_append.proofs.DecidingFree.{Marked}
 use Rattle.seglog_append.proofs.lowest_free.Given as goal
 
 abbrev pub invariant-loop-i : goal.invariant-loop-i

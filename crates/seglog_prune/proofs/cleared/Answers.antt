@@ -5,7 +5,7 @@ use Prim.Native.Nat.{◌+◌, ◌-◌}
 use lib.ListN.{set, replicate}
 use Rattle.segment.specs.declared.Segment.{Segment}
 use Rattle.segment.specs.Segment.{no_segment}
-use Rattle.seglog_prune.proofs.Drop.{Moved, paste_none, clear-turn, clear-end}
+use Rattle.seglog_prune.proofs.Drop.{paste_none, clear-turn, clear-end}
 use borrow.Author.Rules.{rules}
 use Rattle.seglog_prune.proofs.cleared.Goals as goal
 

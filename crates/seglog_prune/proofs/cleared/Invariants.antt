@@ -1,12 +1,9 @@
 -- `seglog_prune::cleared` meets its contract: the zeros are written over the entries one by one.
 -- Assumes nothing.
-use mathlib.Core.Path.{ap, ◌∙◌}
-use Prim.Native.Nat.{◌+◌, ◌-◌}
-use lib.ListN.{set, replicate}
-use Rattle.segment.specs.declared.Segment.{Segment}
+use Prim.Native.Nat.{◌-◌}
+use lib.ListN.{replicate}
 use Rattle.segment.specs.Segment.{no_segment}
-use Rattle.seglog_prune.proofs.Drop.{Moved, paste_none, clear-turn, clear-end}
-use borrow.Author.Rules.{rules}
+use Rattle.seglog_prune.proofs.Drop.{Moved}
 use Rattle.seglog_prune.proofs.cleared.Given as goal
 
 abbrev pub invariant-loop-i : goal.invariant-loop-i

@@ -2,7 +2,6 @@
 use mathlib.Core.Path.{sym, ap, ◌∙◌}
 use Rattle.seglog_prune.specs.Cut.{only}
 use Rattle.seglog_prune.proofs.Cut.{only-lost}
-use borrow.Author.Rules.{rules}
 use Rattle.seglog_prune.proofs.cut_at.Goals as goal
 
 pub returns-in-Here : goal.returns-in-Here

@@ -1,7 +1,6 @@
 -- `seglog_prune::cut_in` meets its contract: the newest record by one look, any other by the search. Assumes nothing.
 use mathlib.Core.Path.{◌∙◌}
 use borrow.Author.Tests.{eq-eqb, ne_eqb}
-use borrow.Author.Rules.{rules}
 use Rattle.seglog_prune.specs.Cut.{cut_in}
 use Rattle.seglog_prune.proofs.cut_in.Goals as goal
 

@@ -4,7 +4,6 @@ use mathlib.Core.Path.{◌≡◌, sym, ap, ◌∙◌}
 use mathlib.Core.Bool.{true}
 use lib.ListN.{length, take}
 use Prim.Native.Nat.{ℕ}
-use borrow.Author.Tests.{not-true, not-false}
 use Rattle.lists.proofs.Arrays.{unmapped}
 use Rattle.seglog.specs.View.{view_of}
 use Rattle.seglog.specs.Fit.{fitting_of}

@@ -1,8 +1,7 @@
 -- `seglog_prune::find_cut` meets its contract: what is found from the place reached is what is found from the start.
 -- Assumes nothing.
 use mathlib.Core.Path.{◌≡◌, refl, sym, ◌∙◌}
-use Prim.Native.Nat.{ℕ, ◌-◌, ◌<◌}
-use mathlib.Core.List.{List}
+use Prim.Native.Nat.{◌<◌}
 use lib.ListN.{length}
 use Rattle.seglog_prune.specs.declared.Look.TheVariants.{Other}
 use Rattle.seglog_prune.specs.Cut.{look_at, find_cut}

@@ -1,13 +1,9 @@
 -- `seglog_prune::find_cut` meets its contract: what is found from the place reached is what is found from the start.
 -- Assumes nothing.
-use mathlib.Core.Path.{◌≡◌, refl, sym, ◌∙◌}
-use Prim.Native.Nat.{ℕ, ◌-◌, ◌<◌}
-use mathlib.Core.List.{List}
+use mathlib.Core.Path.{◌≡◌}
+use Prim.Native.Nat.{◌-◌}
 use lib.ListN.{length}
-use Rattle.seglog_prune.specs.declared.Look.TheVariants.{Other}
-use Rattle.seglog_prune.specs.Cut.{look_at, find_cut}
-use Rattle.seglog_prune.proofs.Cut.{cut-end, cut-none, cut-here, cut_on, cut-nearer}
-use borrow.Author.Rules.{rules}
+use Rattle.seglog_prune.specs.Cut.{find_cut}
 use Rattle.seglog_prune.proofs.find_cut.Given as goal
 
 -- what is found from the place reached is what is found from the start

@@ -1,9 +1,7 @@
 -- `seglog_prune::leading` meets its contract: each turn passes a segment that goes.
 -- Assumes nothing.
-use mathlib.Core.Path.{refl}
 use Prim.Native.Nat.{◌-◌}
-use Rattle.seglog_prune.proofs.Drop.{Leads, leads-next, leads-stop, leads-end}
-use borrow.Author.Rules.{rules}
+use Rattle.seglog_prune.proofs.Drop.{Leads}
 use Rattle.seglog_prune.proofs.leading.Given as goal
 
 abbrev pub invariant-loop-i : goal.invariant-loop-i

@@ -2,11 +2,9 @@
 use mathlib.Core.Path.{◌≡◌, sym, ap, ◌∙◌}
 use lib.ListN.{length}
 use Rattle.record.proofs.Record.{header-answer}
-use Rattle.walk.specs.declared.Placed.{Placed}
 use Rattle.walk.specs.declared.RecordAnswer.TheVariants.{Record}
 use Rattle.walk.specs.Judging.{record_at}
 use Rattle.seglog_prune.proofs.Cut.{found_at, look-unread, look-past, look-here, look-other}
-use borrow.Author.Rules.{rules}
 use Rattle.seglog_prune.proofs.look_at.Goals as goal
 
 pub returns-in_default : goal.returns-in_default

@@ -5,11 +5,8 @@ use mathlib.Core.List.{List}
 use Prim.Native.Nat.{ℕ, ◌+◌, ◌-◌, ◌*◌, ◌^◌, ◌≤◌, ◌<◌}
 use native.Mathlib.Nat.{le_trans}
 use native.Mathlib.Omega.{arith}
-use mir.Facts.{Fits-widen}
 use lib.ListN.{length, get_or, take, drop, length-take}
 use Rattle.segment.proofs.Cut.{truncated-padded}
-use Rattle.seglog.specs.declared.Log.{Log}
-use Rattle.segment.specs.declared.Segment.{Segment}
 use Rattle.segment.specs.Segment.{no_segment, image_in}
 use Rattle.seglog.specs.Shape.{SizesObey}
 use Rattle.seglog.specs.New.{accepted}

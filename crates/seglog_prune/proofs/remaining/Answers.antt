@@ -2,7 +2,7 @@
 -- Assumes nothing.
 use mathlib.Core.Path.{refl, ◌∙◌}
 use native.Mathlib.Omega.{arith}
-use Rattle.seglog_prune.proofs.Drop.{Trails, new-on, new-stay, new_none}
+use Rattle.seglog_prune.proofs.Drop.{new-on, new-stay, new_none}
 use borrow.Author.Rules.{rules}
 use Rattle.seglog_prune.proofs.remaining.Goals as goal
 

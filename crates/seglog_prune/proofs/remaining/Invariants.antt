@@ -1,9 +1,6 @@
 -- `seglog_prune::remaining` meets its contract: each turn passes a segment that goes.
 -- Assumes nothing.
-use mathlib.Core.Path.{refl, ◌∙◌}
-use native.Mathlib.Omega.{arith}
-use Rattle.seglog_prune.proofs.Drop.{Trails, new-on, new-stay, new_none}
-use borrow.Author.Rules.{rules}
+use Rattle.seglog_prune.proofs.Drop.{Trails}
 use Rattle.seglog_prune.proofs.remaining.Given as goal
 
 abbrev pub invariant-loop-left : goal.invariant-loop-left

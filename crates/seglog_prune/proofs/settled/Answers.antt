@@ -4,7 +4,6 @@ use mathlib.Core.Path.{sym, ap, ◌∙◌}
 use Rattle.seglog.specs.New.{accepted}
 use Rattle.seglog_prune.specs.Steps.{settled_of}
 use Rattle.seglog_prune.proofs.Decide.{settled-given}
-use borrow.Author.Rules.{rules}
 use Rattle.seglog_prune.proofs.settled.Goals as goal
 
 pub returns-in-Refused : goal.returns-in-Refused

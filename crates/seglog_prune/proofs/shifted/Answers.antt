@@ -1,8 +1,6 @@
 -- `seglog_prune::shifted` meets its contract: the entries are moved one by one, and what is left behind them is cleared.
 -- Assumes nothing.
-use Prim.Native.Nat.{◌-◌}
-use lib.ListN.{drop}
-use Rattle.seglog_prune.proofs.Drop.{Moved, shift-turn, shift-whole}
+use Rattle.seglog_prune.proofs.Drop.{shift-turn, shift-whole}
 use borrow.Author.Rules.{rules}
 use Rattle.seglog_prune.proofs.shifted.Goals as goal
 

@@ -2,8 +2,7 @@
 -- Assumes nothing.
 use Prim.Native.Nat.{◌-◌}
 use lib.ListN.{drop}
-use Rattle.seglog_prune.proofs.Drop.{Moved, shift-turn, shift-whole}
-use borrow.Author.Rules.{rules}
+use Rattle.seglog_prune.proofs.Drop.{Moved}
 use Rattle.seglog_prune.proofs.shifted.Given as goal
 
 abbrev pub invariant-loop-i : goal.invariant-loop-i

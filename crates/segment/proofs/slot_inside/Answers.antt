@@ -4,7 +4,6 @@ use Prim.Native.Nat.{◌*◌, ◌+◌}
 use native.Mathlib.Nat.{mul-zero}
 use native.Mathlib.Omega.{arith}
 use borrow.Author.Tests.{le-leb}
-use borrow.Author.Rules.{rules}
 use Rattle.segment.proofs.Cut.{inside-quotient}
 use Rattle.segment.proofs.slot_inside.Goals as goal
 

@@ -4,8 +4,7 @@ use mathlib.Core.Path.{◌≡◌, sym, ap, ◌∙◌}
 use Prim.Native.Nat.{ℕ, ◌+◌, ◌*◌, ◌-◌, ◌≤◌}
 use native.Mathlib.Omega.{arith}
 use lib.ListN.{length, replicate}
-use borrow.Author.Tests.{not-true, not-false, leb-true}
-use borrow.Author.Rules.{rules}
+use borrow.Author.Tests.{leb-true}
 use Rattle.lists.specs.Splice.{splice}
 use Rattle.segment.proofs.Cut.{truncated-outside, truncated-past, truncated-tail, truncated-whole}
 use Rattle.segment.proofs.truncate.Goals as goal

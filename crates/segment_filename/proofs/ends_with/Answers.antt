@@ -1,7 +1,6 @@
 -- `segment_filename::ends_with` meets its contract.
 -- Assumes nothing.
 use mathlib.Core.Path.{sym, ◌∙◌}
-use borrow.Author.Rules.{rules}
 use Rattle.segment_filename.proofs.Words.{ends-short, ends-part}
 use Rattle.segment_filename.proofs.ends_with.Goals as goal
 

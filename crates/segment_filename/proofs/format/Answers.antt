@@ -5,7 +5,6 @@ use mathlib.Core.List.{List}
 use Prim.Native.Nat.{ℕ, ◌+◌}
 use native.Mathlib.Omega.{arith}
 use lib.ListN.{length}
-use borrow.Author.Rules.{rules}
 use Rattle.lists.specs.Splice.{splice}
 use Rattle.segment_filename.specs.Digits.{digits}
 use Rattle.segment_filename.specs.Formatting.{dot, suffix}

@@ -1,12 +1,8 @@
 -- `segment_filename::matches_at` meets its contract. The loop's invariant: each byte of the word before i stands at its place.
 -- Assumes nothing.
-use mathlib.Core.Path.{◌≡◌, sym}
+use mathlib.Core.Path.{◌≡◌}
 use Prim.Native.Nat.{ℕ, ◌≤◌, ◌<◌, ◌+◌, ◌-◌}
-use native.Mathlib.Omega.{arith}
 use lib.ListN.{length, get_or}
-use borrow.Author.Count.{below_more}
-use borrow.Author.Rules.{rules}
-use Rattle.segment_filename.proofs.Words.{match-short, match-differs, match-all}
 use Rattle.segment_filename.proofs.matches_at.Given as goal
 
 abbrev pub invariant-loop-i : goal.invariant-loop-i

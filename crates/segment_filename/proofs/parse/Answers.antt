@@ -7,7 +7,6 @@ use Prim.Native.Nat.{ℕ, ◌≤◌, ◌-◌}
 use native.Mathlib.Omega.{arith}
 use lib.ListN.{length, take, drop, length-take}
 use borrow.Author.Rules.{rules}
-use borrow.Author.Tests.{not-true, not-false}
 use Rattle.lists.specs.Splice.{part}
 use Rattle.segment_filename.specs.Words.{starts_with, ends_with}
 use Rattle.segment_filename.specs.Formatting.{dot, suffix}

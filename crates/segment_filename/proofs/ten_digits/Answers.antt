@@ -2,9 +2,9 @@
 -- Assumes nothing.
 use mathlib.Core.Path.{◌≡◌, refl, sym, ap, ◌∙◌}
 use mathlib.Core.List.{◌++◌, append-nil}
-use Prim.Native.Nat.{ℕ, suc, ◌≤◌, ◌-◌}
+use Prim.Native.Nat.{ℕ, suc, ◌-◌}
 use native.Mathlib.Omega.{arith}
-use lib.ListN.{length, length-set, drop}
+use lib.ListN.{length-set, drop}
 use borrow.Author.Rules.{rules}
 use Rattle.segment_filename.specs.Digits.{digits}
 use Rattle.segment_filename.proofs.Digits.{digits-turn}

@@ -1,13 +1,10 @@
 -- `segment_filename::ten_digits` meets its contract. The loop's invariant: the digits are those still to come and those written behind i.
 -- Assumes nothing.
-use mathlib.Core.Path.{◌≡◌, refl, sym, ap, ◌∙◌}
-use mathlib.Core.List.{◌++◌, append-nil}
-use Prim.Native.Nat.{ℕ, suc, ◌≤◌, ◌-◌}
-use native.Mathlib.Omega.{arith}
-use lib.ListN.{length, length-set, drop}
-use borrow.Author.Rules.{rules}
+use mathlib.Core.Path.{◌≡◌}
+use mathlib.Core.List.{◌++◌}
+use Prim.Native.Nat.{◌≤◌}
+use lib.ListN.{length, drop}
 use Rattle.segment_filename.specs.Digits.{digits}
-use Rattle.segment_filename.proofs.Digits.{digits-turn}
 use Rattle.segment_filename.proofs.ten_digits.Given as goal
 
 abbrev pub invariant-loop-i : goal.invariant-loop-i

@@ -2,7 +2,6 @@
 use mathlib.Core.Path.{sym, ◌∙◌}
 use native.Mathlib.Omega.{arith}
 use Rattle.segment_rw.proofs.Writer.{fits-not-small, fits-not-holds, fits-not-room, fits-inside}
-use borrow.Author.Rules.{rules}
 use Rattle.segment_rw.proofs.fits_slot.Goals as goal
 
 pub returns-then-n : goal.returns-then-n

@@ -1,6 +1,5 @@
 -- `put_record` meets its contract: header, payload and zeros, one right behind the other. Assumes nothing.
 use native.Mathlib.Omega.{arith}
-use borrow.Author.Rules.{rules}
 use lib.ListN.{length}
 use Rattle.record.specs.declared.RecordHeader.{RecordHeader}
 use Rattle.record.specs.Record.{header_bytes}

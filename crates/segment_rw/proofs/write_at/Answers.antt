@@ -3,10 +3,8 @@ use mathlib.Core.Path.{◌≡◌, refl, sym, ◌∙◌}
 use mathlib.Core.Bool.{true}
 use native.Mathlib.Omega.{arith}
 use lib.ListN.{length}
-use borrow.Author.Tests.{not-true, not-false}
 use Rattle.segment_rw.specs.Writer.{fits_slot}
 use Rattle.segment_rw.proofs.Writer.{Fits, fits-only, wrote_none, wrote-record}
-use borrow.Author.Rules.{rules}
 use Rattle.segment_rw.proofs.write_at.Goals as goal
 
 pub returns-then-not-fits_slot : goal.returns-then-not-fits_slot

@@ -2,8 +2,6 @@
 -- Assumes nothing.
 use mathlib.Core.Path.{◌≡◌, sym, ap, ◌∙◌}
 use mathlib.Core.Bool.{true}
-use borrow.Author.Tests.{not-true, not-false}
-use Rattle.record.specs.declared.RecordHeader.{RecordHeader}
 use Rattle.walk.specs.declared.RecordAnswer.TheVariants.{Record, Refused}
 use Rattle.walk.specs.Judging.{header_fits}
 use Rattle.walk.proofs.Judging.{fits-inside, record-short, record-refused, record-long, record-good}

@@ -2,12 +2,10 @@
 -- Assumes nothing.
 use mathlib.Core.Path.{◌≡◌, refl, sym, ◌∙◌}
 use mathlib.Core.Bool.{true}
-use Prim.Native.Nat.{◌-◌}
 use native.Mathlib.Omega.{arith}
 use lib.ListN.{length}
 use Rattle.walk.specs.declared.Step.TheVariants.{Next}
 use Rattle.walk.specs.Judging.{record_step, more_of}
-use Rattle.walk.specs.Walk.{walk_of}
 use Rattle.walk.proofs.Judging.{more-inside, step-moves}
 use Rattle.walk.proofs.Walk.{walk_end, walk_more, walk-fault}
 use Rattle.walk.proofs.walk_image.Goals as goal

@@ -1,15 +1,9 @@
 -- `walk::walk_image` meets its contract: each turn is one law of the walk; what is left of the image falls.
 -- Assumes nothing.
-use mathlib.Core.Path.{◌≡◌, refl, sym, ◌∙◌}
-use mathlib.Core.Bool.{true}
+use mathlib.Core.Path.{◌≡◌}
 use Prim.Native.Nat.{◌-◌}
-use native.Mathlib.Omega.{arith}
 use lib.ListN.{length}
-use Rattle.walk.specs.declared.Step.TheVariants.{Next}
-use Rattle.walk.specs.Judging.{record_step, more_of}
 use Rattle.walk.specs.Walk.{walk_of}
-use Rattle.walk.proofs.Judging.{more-inside, step-moves}
-use Rattle.walk.proofs.Walk.{walk_end, walk_more, walk-fault}
 use Rattle.walk.proofs.walk_image.Given as goal
 
 abbrev pub invariant-loop-step : goal.invariant-loop-step

@@ -1,9 +1,8 @@
 -- `iflughan::table_in` meets its contract. The loop's invariant: the first i rows are those of the table that is lent.
 -- The measure is the number of rows left. Assumes nothing.
-use Prim.Native.Nat.{◌≤◌, ◌-◌}
-use mathlib.Core.List.{[], map}
-use mathlib.Core.Path.{◌≡◌, refl, ap, ◌∙◌}
-use lib.ListN.{length, take, length-set}
+use mathlib.Core.List.{[]}
+use mathlib.Core.Path.{refl}
+use lib.ListN.{length-set}
 use native.Mathlib.Omega.{arith}
 use borrow.Author.Rules.{rules}
 use Rattle.lists.proofs.Arrays.{unmapped}

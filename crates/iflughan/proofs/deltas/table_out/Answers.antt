@@ -1,9 +1,9 @@
 -- `iflughan::table_out` meets its contract. The loop's invariant: the first i rows are those of the library's table.
 -- The measure is the number of rows left. Assumes nothing.
-use Prim.Native.Nat.{◌≤◌, ◌+◌, ◌-◌}
-use mathlib.Core.List.{List, [], map}
+use Prim.Native.Nat.{◌+◌}
+use mathlib.Core.List.{[]}
 use mathlib.Core.Path.{◌≡◌, refl, ap, ◌∙◌}
-use lib.ListN.{length, take, set, get_or, replicate, length-set}
+use lib.ListN.{take, set, get_or, length-set}
 use native.Mathlib.Omega.{arith}
 use borrow.Author.Rules.{rules}
 use Rattle.lists.proofs.Arrays.{unmapped}

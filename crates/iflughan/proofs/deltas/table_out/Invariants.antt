@@ -1,17 +1,10 @@
 -- `iflughan::table_out` meets its contract. The loop's invariant: the first i rows are those of the library's table.
 -- The measure is the number of rows left. Assumes nothing.
-use Prim.Native.Nat.{◌≤◌, ◌+◌, ◌-◌}
-use mathlib.Core.List.{List, [], map}
-use mathlib.Core.Path.{◌≡◌, refl, ap, ◌∙◌}
-use lib.ListN.{length, take, set, get_or, replicate, length-set}
-use native.Mathlib.Omega.{arith}
-use borrow.Author.Rules.{rules}
-use Rattle.lists.proofs.Arrays.{unmapped}
-use Rattle.delta.specs.Table.{erased}
-use Rattle.delta.proofs.TablePlacing.{keys-turn}
+use Prim.Native.Nat.{◌≤◌, ◌-◌}
+use mathlib.Core.List.{map}
+use mathlib.Core.Path.{◌≡◌}
+use lib.ListN.{length, take, replicate}
 use Rattle.iflughan.specs.Deltas.{row_out}
-use Rattle.iflughan.specs.declared.DeltaRow.{DeltaRow}
-use Rattle.iflughan.proofs.DeltasRows.{all-rows}
 use Rattle.iflughan.proofs.deltas.table_out.Given as given
 
 abbrev pub invariant-loop-i : given.invariant-loop-i

@@ -1,6 +1,5 @@
 -- `iflughan::written_delta` meets its contract: the library's number and value, as one struct.
 -- Assumes nothing.
-use borrow.Author.Rules.{rules}
 use Rattle.iflughan.specs.Deltas.{written_delta}
 use Rattle.iflughan.proofs.deltas.written_delta.Goals as goal
 

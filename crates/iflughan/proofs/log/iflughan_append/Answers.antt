@@ -1,7 +1,6 @@
 -- `iflughan::iflughan_append` meets its contract: `append`'s, with the padding named.
 -- Assumes nothing.
 use mathlib.Core.Path.{ap, ◌∙◌}
-use borrow.Author.Rules.{rules}
 use Rattle.iflughan.specs.Log.{appended_out}
 use Rattle.iflughan.proofs.log.iflughan_append.Goals as goal
 

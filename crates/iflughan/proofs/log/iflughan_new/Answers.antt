@@ -1,7 +1,6 @@
 -- `iflughan::iflughan_new` meets its contract: `new_log`'s, with the padding named.
 -- Assumes nothing.
 use mathlib.Core.Path.{ap, ◌∙◌}
-use borrow.Author.Rules.{rules}
 use Rattle.iflughan.specs.Log.{logged_out}
 use Rattle.iflughan.proofs.log.iflughan_new.Goals as goal
 

@@ -1,7 +1,6 @@
 -- `iflughan::iflughan_prune_recent` meets its contract: `prune_recent`'s, with the padding named.
 -- Assumes nothing.
 use mathlib.Core.Path.{ap, ◌∙◌}
-use borrow.Author.Rules.{rules}
 use Rattle.iflughan.specs.Log.{logged_out}
 use Rattle.iflughan.proofs.log.iflughan_prune_recent.Goals as goal
 

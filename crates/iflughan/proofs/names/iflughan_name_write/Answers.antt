@@ -1,7 +1,6 @@
 -- `iflughan::iflughan_name_write` meets its contract: `format`'s, with its answer as numbers.
 -- Assumes nothing.
 use mathlib.Core.Path.{ap, ◌∙◌}
-use borrow.Author.Rules.{rules}
 use Rattle.iflughan.specs.Names.{written_name}
 use Rattle.iflughan.proofs.names.iflughan_name_write.Goals as goal
 

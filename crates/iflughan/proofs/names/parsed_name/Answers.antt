@@ -1,6 +1,5 @@
 -- `iflughan::parsed_name` meets its contract: the library's number and value, as one struct.
 -- Assumes nothing.
-use borrow.Author.Rules.{rules}
 use Rattle.iflughan.specs.Names.{parsed_name}
 use Rattle.iflughan.proofs.names.parsed_name.Goals as goal
 

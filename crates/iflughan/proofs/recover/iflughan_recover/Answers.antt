@@ -1,7 +1,6 @@
 -- `iflughan::recover::iflughan_recover` meets its contract: recovery from the array that was read is recovery from the lent rows.
 -- Assumes nothing.
-use Prim.Native.Nat.{ℕ}
-use mathlib.Core.Path.{◌≡◌, ap, subst, ◌∙◌}
+use mathlib.Core.Path.{ap, subst, ◌∙◌}
 use lib.ListN.{length}
 use Rattle.image_rows.specs.declared.Rows.{Rows}
 use Rattle.image_rows.specs.Rows.{listed_of}

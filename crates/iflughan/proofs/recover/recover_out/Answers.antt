@@ -1,7 +1,6 @@
 -- `iflughan::recover::recover_out` meets its contract: `recover`'s, with the padding named.
 -- Assumes nothing.
 use mathlib.Core.Path.{ap, ◌∙◌}
-use borrow.Author.Rules.{rules}
 use Rattle.iflughan.specs.Recover.{recovered_out}
 use Rattle.iflughan.proofs.recover.recover_out.Goals as goal
 

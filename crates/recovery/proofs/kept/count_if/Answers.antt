@@ -1,6 +1,5 @@
 -- `recovery::kept::count_if` meets its contract: by the flag.
 -- Assumes nothing.
-use borrow.Author.Rules.{rules}
 use Rattle.recovery.proofs.kept.count_if.Goals as goal
 
 pub returns-then-live : goal.returns-then-live

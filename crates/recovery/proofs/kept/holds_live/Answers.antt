@@ -1,6 +1,5 @@
 -- `recovery::kept::holds_live` meets its contract: the two tests, joined.
 -- Assumes nothing.
-use borrow.Author.Rules.{rules}
 use Rattle.recovery.specs.Keeping.{holds_live}
 use Rattle.recovery.proofs.kept.holds_live.Goals as goal
 

@@ -1,11 +1,10 @@
 -- `recovery::kept::keep` meets its contract: by the laws of its loop in proofs/Keeping.antt.
 -- Assumes nothing.
-use mathlib.Core.Path.{◌≡◌, refl, ◌∙◌}
-use Prim.Native.Nat.{ℕ, ◌≤◌, ◌-◌}
+use mathlib.Core.Path.{refl, ◌∙◌}
 use native.Mathlib.Omega.{arith}
-use lib.ListN.{length, length-set}
+use lib.ListN.{length-set}
 use borrow.Author.Rules.{rules}
-use Rattle.recovery.proofs.Keeping.{AtKeep, keep-start, keep-turn, keep-end}
+use Rattle.recovery.proofs.Keeping.{keep-start, keep-turn, keep-end}
 use Rattle.recovery.proofs.kept.keep.Goals as goal
 
 pub loop-i-init : goal.loop-i-init

@@ -1,11 +1,9 @@
 -- `recovery::kept::keep` meets its contract: by the laws of its loop in proofs/Keeping.antt.
 -- Assumes nothing.
-use mathlib.Core.Path.{◌≡◌, refl, ◌∙◌}
-use Prim.Native.Nat.{ℕ, ◌≤◌, ◌-◌}
-use native.Mathlib.Omega.{arith}
-use lib.ListN.{length, length-set}
-use borrow.Author.Rules.{rules}
-use Rattle.recovery.proofs.Keeping.{AtKeep, keep-start, keep-turn, keep-end}
+use mathlib.Core.Path.{◌≡◌}
+use Prim.Native.Nat.{◌≤◌, ◌-◌}
+use lib.ListN.{length}
+use Rattle.recovery.proofs.Keeping.{AtKeep}
 use Rattle.recovery.proofs.kept.keep.Given as given
 
 abbrev pub invariant-loop-i : given.invariant-loop-i

@@ -3,7 +3,6 @@
 use native.Mathlib.Omega.{arith}
 use lib.ListN.{length-set}
 use Rattle.recovery_walk.proofs.Rows.{room-four, put_four, put-none}
-use borrow.Author.Rules.{rules}
 use Rattle.recovery_walk.proofs.second_pass.put_live.Goals as goal
 
 pub bounds-index-at : goal.bounds-index-at

@@ -1,6 +1,5 @@
 -- `walk::parts::follows` meets its contract: each way out is one law of `follows_of`.
 -- Assumes nothing.
-use borrow.Author.Rules.{rules}
 use Rattle.walk.proofs.Judging.{follows-zero, follows-first, follows_next}
 use Rattle.walk.proofs.parts.follows.Goals as goal
 

@@ -2,7 +2,6 @@
 -- Assumes nothing.
 use mathlib.Core.Path.{◌≡◌, sym, ap, ◌∙◌}
 use mathlib.Core.Bool.{true}
-use borrow.Author.Tests.{not-true, not-false}
 use Rattle.walk.specs.declared.Step.TheVariants.{Next}
 use Rattle.walk.specs.Judging.{follows_of}
 use Rattle.walk.proofs.Judging.{judge-order, judge-cut, judge-good}

@@ -1,6 +1,5 @@
 -- `walk::parts::placed` meets its contract: sums below 2^32, and the padded end.
 -- Assumes nothing.
-use borrow.Author.Rules.{rules}
 use Rattle.walk.proofs.parts.placed.Goals as goal
 
 pub returns : goal.returns
