@@ -4,7 +4,6 @@ use Rattle.lists.specs.Unique.{UniqueAnswer}
 use Rattle.lists.proofs.Unique.{unique}
 use Rattle.delta.proofs.Reading.{decode-determined}
 use Rattle.delta.proofs.arrange.Reads as arrange
-use Rattle.delta.proofs.arrange_rows.Reads as arrange-rows
 use Rattle.delta.proofs.decode.Reads as decode
 use Rattle.delta.proofs.decoding_number.Reads as decoding-number
 use Rattle.delta.proofs.decoding_consumed.Reads as decoding-consumed
@@ -12,10 +11,6 @@ use Rattle.delta.proofs.decoding_consumed.Reads as decoding-consumed
 -- of `arrange`: the mark and every row of the table
 pub arrange-unique : UniqueAnswer arrange.Learnt
 arrange-unique κs a r r' e e' = unique
-
--- of `arrange_rows`: the same
-pub arrange-rows-unique : UniqueAnswer arrange-rows.Learnt
-arrange-rows-unique κs a r r' e e' = unique
 
 -- of `decode`: the answer with the bytes consumed, and every row of the table
 pub decode-unique : UniqueAnswer decode.Learnt

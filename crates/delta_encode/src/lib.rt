@@ -3,7 +3,7 @@
 // Assumes nothing.
 #![tactic(auto)]
 
-ghost use Rattle.std.specs.Prelude.{◌≡◌, ◌++◌, false, ◌+◌, ◌≤◌, length, take};
+ghost use Rattle.std.specs.Prelude.{◌≡◌, ◌++◌, false, ◌+◌, ◌≤◌, length};
 ghost use Rattle.lists.specs.Splice.{part, splice};
 ghost use Rattle.little_endian.specs.LittleEndian.{le_bytes};
 ghost use Rattle.lists.specs.Each.{any};
@@ -11,7 +11,7 @@ ghost use Rattle.delta.specs.Table.{rows_of};
 ghost use Rattle.delta_encode.specs.Bytes.{encoded_number, encoded_length, encode_outcome, outside, erase_bytes, reinstate_bytes};
 ghost use Rattle.delta_encode.specs.Bytes.{concat, encoded_of, after_of, Sized};
 
-use delta::{Row, Table};
+use delta::Table;
 
 // What encoding comes to: the length written, or a refusal.
 #[derive(Clone, Copy)]
@@ -55,14 +55,15 @@ struct Sizes {
 }
 
 // Whether a value lies outside the n bytes that are lent.
-fn any_outside(rows: &[Row; 256], count: usize, n: usize) -> bool
-    requires { count ≤ 256 }
-    ensures { result ≡ any (outside n) (take count rows.now) }
+fn any_outside(t: Table, n: usize) -> bool
+    requires { t.count ≤ 256 }
+    ensures { result ≡ any (outside n) (rows_of t) }
 {
+    let count = t.count;
     let limit = n as u64;
     let mut i: usize = 0;
     while i < count {
-        let row = rows[i];
+        let row = t.rows[i];
         if row.present {
             if limit < row.offset {
                 return true;
@@ -176,19 +177,18 @@ fn put_reinstates(t: Table, values: &[u8], out: &mut [u8], at: usize) -> usize
     p
 }
 
-// The delta of a table that is lent, whose values lie in `values`, written at the front of `out`; or the refusal, and `out` stays. It is
-// public only because the crate `iflughan` calls it: a table of 14 KB is not copied.
-pub fn encode_lent(t: &Table, values: &[u8], out: &mut [u8]) -> Encoded
-    ensures result_value { encode_outcome result ≡ encoded_of 256 t.now values.now out.old }
-    ensures out_after { out.new ≡ after_of 256 t.now values.now out.old }
+// The delta of a table whose values lie in `values`, written at the front of `out`; or the refusal, and `out` stays.
+pub fn encode(t: Table, values: &[u8], out: &mut [u8]) -> Encoded
+    ensures result_value { encode_outcome result ≡ encoded_of 256 t values.now out.old }
+    ensures out_after { out.new ≡ after_of 256 t values.now out.old }
 {
     if 256 < t.count {
         return Encoded::Outside;
     }
-    if any_outside(&t.rows, t.count, values.len()) {
+    if any_outside(t, values.len()) {
         return Encoded::Outside;
     }
-    let arranged = delta::arrange_rows(&t.rows, t.count);
+    let arranged = delta::arrange(t);
     if arranged.twins {
         return Encoded::Duplicate;
     }
@@ -202,12 +202,4 @@ pub fn encode_lent(t: &Table, values: &[u8], out: &mut [u8]) -> Encoded
     little_endian::write_u32(out, p, sizes.reinstates);
     let q = put_reinstates(u, values, out, p + 4);
     Encoded::Written(q)
-}
-
-// The delta of a table whose values lie in `values`, written at the front of `out`; or the refusal, and `out` stays.
-pub fn encode(t: Table, values: &[u8], out: &mut [u8]) -> Encoded
-    ensures result_value { encode_outcome result ≡ encoded_of 256 t values.now out.old }
-    ensures out_after { out.new ≡ after_of 256 t values.now out.old }
-{
-    encode_lent(&t, values, out)
 }

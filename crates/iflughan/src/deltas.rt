@@ -123,6 +123,5 @@ pub extern "C" fn iflughan_delta_encode(table: Delta, values: &[u8], out: &mut [
     ensures answer { result ≡ written_delta (encoded_of 256 (table_in table) values.now out.old) }
     ensures buffer { out.new ≡ after_of 256 (table_in table) values.now out.old }
 {
-    let t = table_in(table);
-    written_delta(delta_encode::encode_lent(&t, values, out))
+    written_delta(delta_encode::encode(table_in(table), values, out))
 }

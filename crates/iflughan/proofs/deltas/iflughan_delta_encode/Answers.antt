@@ -9,8 +9,8 @@ use Rattle.iflughan.proofs.deltas.iflughan_delta_encode.Goals as goal
 pub returns : goal.returns
 returns c =
     let d = c.args in
-    let it = c.table_in-t.ensures in record {
-      answer = c.written_delta.ensures ∙ ap written_delta c.encode_lent.ensures.result_value
+    let it = c.table_in.ensures in record {
+      answer = c.written_delta.ensures ∙ ap written_delta c.encode.ensures.result_value
           ∙ ap (λ (u : Table). written_delta (encoded_of 256 u d.values.now d.out.now)) it;
-      buffer = c.encode_lent.ensures.out_after ∙ ap (λ (u : Table). after_of 256 u d.values.now d.out.now) it;
+      buffer = c.encode.ensures.out_after ∙ ap (λ (u : Table). after_of 256 u d.values.now d.out.now) it;
     }
