@@ -22,7 +22,9 @@ pub enum Encoded {
     Short,
 }
 
-// Document 01's number of an encoding's answer, 0 where it is accepted.
+// Document 01's number of an encoding's answer, 0 where it is accepted. Never inlined, for the stack that the C interface's encoding takes
+// (tests/abi/stack.c).
+#[inline(never)]
 pub fn encoded_number(answer: Encoded) -> u32
     ensures { result ≡ encoded_number answer }
 {

@@ -136,7 +136,9 @@ fn start_after(count: usize, start: u64, id: u64) -> u64
     start
 }
 
-// The answer with a record at its place, behind the target's bytes, where the target is `size` bytes long then.
+// The answer with a record at its place, behind the target's bytes, where the target is `size` bytes long then. Never inlined, for the
+// stack that the C interface's append takes (tests/abi/stack.c).
+#[inline(never)]
 fn grown(mut log: Log, place: Place, size: u64) -> Appended
     requires { GrownPre log place }
     ensures { result ≡ grown_answer log place size }
