@@ -1,5 +1,6 @@
 -- For each exported function: two answers, and two contents of each lent slice, that its contract allows are equal. Each is stated of what
--- a caller learns from the generated contract; of `iflughan_recover` that is written here and shown to be what its contract ensures. Assumes nothing.
+-- a caller learns from the generated contract; of `iflughan_recover` that is written here and shown to be what its contract ensures.
+-- Assumes nothing.
 use mathlib.Core.Path.{refl}
 use mathlib.Core.List.{List}
 use Prim.Native.Nat.{ℕ}
