@@ -10,7 +10,7 @@ use native.Mathlib.Omega.{arith}
 use Rattle.keys.specs.Bits.{bit_of}
 use Rattle.keys.specs.Promised.{KeysBytesEqual, SameBits, KeysBitsEqual, KeysBitDiffers}
 use Rattle.keys.specs.Order.{compare_keys}
-use Rattle.keys.specs.declared.Side.TheVariants.{Same}
+use Rattle.std.specs.declared.cmp.Ordering.TheVariants.{Equal}
 use Rattle.keys.proofs.Order.{compare_refl, compare_same}
 
 -- a number below 2 ^ n is determined by its n lowest bits
@@ -37,7 +37,7 @@ pub keys-bytes-equal : KeysBytesEqual
 keys-bytes-equal a b = (compare_same a b, λ e. rw e (compare_refl b))
 
 -- keys that compare the same have the same bits
-bits-same : (a b : List ℕ) → compare_keys a b ≡ Same → (i : ℕ) → bit_of a i ≡ bit_of b i
+bits-same : (a b : List ℕ) → compare_keys a b ≡ Equal → (i : ℕ) → bit_of a i ≡ bit_of b i
 bits-same a b e i = ap (λ (k : List ℕ). bit_of k i) (compare_same a b e)
 
 pub keys-bits-equal : KeysBitsEqual

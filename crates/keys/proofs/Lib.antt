@@ -1,7 +1,5 @@
 pub mod Order
 pub mod Place
-pub mod PlaceShift
-pub mod PlaceHalving
 pub mod Sorting
 pub mod Ranks
 pub mod Bits
