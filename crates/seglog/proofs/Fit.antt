@@ -6,6 +6,8 @@ use mathlib.Core.Bool.{Bool, true, false, ◌&&◌}
 use Prim.Native.Nat.{ℕ, ◌+◌, ◌-◌, ◌*◌, ◌%◌, ◌≤◌, ◌<◌}
 use native.Mathlib.Nat.{mul-le-mul}
 use native.Mathlib.Omega.{arith}
+use mir.Syntax.{w64}
+use mir.Val.{Fits}
 use lib.ListN.{length, get_or, take, drop}
 use lib.Seq.{drop-cons}
 use lib.Dec.{eqb, leb, ltb}
@@ -63,6 +65,9 @@ are-sizes k c m s =
 -- K x C is a number of 38 bits
 pub sizes-room : (k c m : ℕ) → SizesObey k c m → k * c ≤ 137438953472
 sizes-room k c m s = mul-le-mul s.few-slots s.at_most
+
+pub product_fits : (k c m : ℕ) → sizes_of k c m ≡ true → Fits w64 (k * c)
+product_fits k c m h = omega (arith, sizes-room k c m (sizes-are k c m h))
 
 -- ---- refusal 1
 

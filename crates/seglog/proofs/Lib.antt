@@ -4,5 +4,5 @@ pub mod Fit
 pub mod FitTurns
 pub mod New
 pub mod Chain
-pub mod Shape
+pub mod Shaped
 pub mod Unique

@@ -1,6 +1,9 @@
 -- For each public function of this crate: two answers, and two areas afterwards, that its contract allows are equal. Assumes nothing.
+use mathlib.Core.Path.{sym, ◌∙◌}
 use Rattle.lists.specs.Unique.{UniqueAnswer, UniqueBoth}
-use Rattle.lists.proofs.Unique.{unique, unique-both}
+use Rattle.lists.proofs.Unique.{unique}
+use Rattle.seglog.specs.View.{zero_log}
+use Rattle.seglog.proofs.New.{logged-unique}
 use Rattle.seglog.proofs.sizes_fit.Reads as sizes-fit
 use Rattle.seglog.proofs.fits.Reads as fits
 use Rattle.seglog.proofs.empty_log.Reads as empty-log
@@ -17,8 +20,8 @@ fits-unique κs a r r' e e' = unique
 pub empty-log-unique : UniqueAnswer empty-log.Learnt
 empty-log-unique κs a r r' e e' = unique
 
-pub new-log-unique : UniqueBoth new-log.Learnt (λ _ e. e.1.1.1.0.now)
-new-log-unique κs a r r' e e' = unique-both
+pub new-log-unique : UniqueBoth new-log.Learnt (λ _ e. e.1.0.now)
+new-log-unique κs a r r' e e' p q = (logged-unique zero_log r r' (p.0 ∙ sym q.0), p.1 ∙ sym q.1)
 
 pub live-range-unique : UniqueAnswer live-range.Learnt
 live-range-unique κs a r r' e e' = unique

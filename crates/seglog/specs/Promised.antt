@@ -1,4 +1,4 @@
--- The statements that docs/PROMISES.md cites; proofs: proofs/Shape.antt. `length l.segs ≡ 64` is the array's type. Assumes nothing.
+-- The statements that docs/PROMISES.md cites; proofs: proofs/Shaped.antt. `length l.segs ≡ 64` is the array's type. Assumes nothing.
 use Rattle.std.specs.Prelude.{◌≡◌, true, ℕ, ◌*◌, length}
 use Rattle.seglog.specs.declared.Log.{Log}
 use Rattle.seglog.specs.Fit.{fitting_of}

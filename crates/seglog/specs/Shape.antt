@@ -1,4 +1,4 @@
--- Document 01's list of what a well-shaped log is, with the two rules of document 02's ask 8: a named field for each rule. proofs/Shape.antt shows that the tests of
+-- Document 01's list of what a well-shaped log is, with the two rules of document 02's ask 8: a named field for each rule. proofs/Shaped.antt shows that the tests of
 -- Fit.antt decide it. Assumes nothing.
 use Rattle.std.specs.Prelude.{◌≡◌, ℕ, ◌+◌, ◌-◌, ◌%◌, ◌≤◌, ◌<◌, get_or}
 use Rattle.segment.specs.declared.Segment.{Segment}

@@ -4,14 +4,14 @@
 
 ghost use Rattle.std.specs.Prelude.{◌≡◌, ◌&&◌, ◌||◌, ◌+◌, ◌-◌, ◌%◌, length, eqb, leb};
 ghost use Rattle.lists.specs.Choice.{pick};
-ghost use Rattle.seglog.specs.View.{zero_of, empty_of, log_of};
+ghost use Rattle.seglog.specs.View.{zero_of, empty_of, log_of, zero_log};
 ghost use Rattle.seglog.specs.Chain.{newest_of, seg_of, goes_on};
 ghost use Rattle.seglog.specs.Fit.{sizes_of, fitting_of};
-ghost use Rattle.seglog.specs.New.{roomy_of, new_of, range_of};
+ghost use Rattle.seglog.specs.New.{roomy_of, new_of, logged, range_of};
 
-use lists::{at_most, below, same};
 use page::PAGE_SIZE;
 use record::HEADER_SIZE;
+use refusal::Refusal;
 use segment::{Segment, no_segment};
 
 // The listed segments stand first, `count` of them, the oldest at the front; the other entries are all zero.
@@ -29,12 +29,12 @@ pub struct Log {
     pub segs: [Segment; 64],
 }
 
-// A refusal's number, or 0, and the log.
-#[repr(C)]
+// The numbers that a log is over: K slots of C bytes, and the soft size M.
 #[derive(Clone, Copy)]
-pub struct Logged {
-    pub refusal: u32,
-    pub log: Log,
+pub struct Shape {
+    pub k: u64,
+    pub c: u64,
+    pub m: u64,
 }
 
 #[derive(Clone, Copy)]
@@ -43,101 +43,77 @@ pub struct LiveRange {
     pub end: u64,
 }
 
-// Whether b is one more than a.
-fn next_to(a: u64, b: u64) -> bool
-    ensures { result ≡ eqb b (a + 1) }
-{
-    if b == 0 {
-        return false;
-    }
-    same(b - 1, a)
-}
-
 // Whether K, C and M obey the rules.
-fn sizes_good(k: u64, c: u64, m: u64) -> bool
-    ensures { result ≡ sizes_of k c m }
+#[tactic(auto, unfolding(crate::specs::Fit::sizes_of))]
+fn sizes_good(shape: Shape) -> bool
+    ensures { result ≡ sizes_of shape.k shape.c shape.m }
 {
-    let some_slot = at_most(1, k);
-    let few_slots = at_most(k, 64);
-    let whole_pages = same(c % PAGE_SIZE, 0);
-    let a_page = at_most(PAGE_SIZE, c);
-    let small = at_most(c, 2147483648);
-    let soft = at_most(m, c);
-    some_slot & few_slots & whole_pages & a_page & small & soft
+    1 <= shape.k
+        && shape.k <= 64
+        && shape.c % PAGE_SIZE == 0
+        && PAGE_SIZE <= shape.c
+        && shape.c <= 2147483648
+        && shape.m <= shape.c
 }
 
 // Whether every field of an entry is 0.
 fn is_zero(g: Segment) -> bool
     ensures { result ≡ zero_of g }
 {
-    let id = same(g.id as u64, 0);
-    let slot = same(g.slot as u64, 0);
-    let size = same(g.size, 0);
-    let min = same(g.min, 0);
-    let max = same(g.max, 0);
-    let newest = same(g.newest_at, 0);
-    id & slot & size & min & max & newest
+    g.id == 0 && g.slot == 0 && g.size == 0 && g.min == 0 && g.max == 0 && g.newest_at == 0
 }
 
 // Whether a segment of `size` bytes may have its newest record at `at`; `at + 12`, which may not fit, is not formed.
+#[tactic(auto, unfolding(crate::specs::Chain::newest_of))]
 fn newest_good(at: u64, size: u64) -> bool
     ensures { result ≡ newest_of at size }
 {
     let header = HEADER_SIZE as u64;
-    if size < header {
-        return false;
-    }
-    let whole_pages = same(at % PAGE_SIZE, 0);
-    whole_pages & at_most(at, size - header)
+    at % PAGE_SIZE == 0 && header <= size && at <= size - header
 }
 
 // What is asked of a listed segment by itself.
-fn segment_good(k: u64, c: u64, g: Segment) -> bool
-    ensures { result ≡ seg_of k c g }
+#[tactic(auto, unfolding(crate::specs::Chain::seg_of))]
+fn segment_good(shape: Shape, g: Segment) -> bool
+    ensures { result ≡ seg_of shape.k shape.c g }
 {
-    let some_id = at_most(1, g.id as u64);
-    let slot = below(g.slot as u64, k);
-    let some_size = at_most(1, g.size);
-    let size = at_most(g.size, c);
-    let some_min = at_most(1, g.min);
-    let order = at_most(g.min, g.max);
-    let newest = newest_good(g.newest_at, g.size);
-    some_id & slot & some_size & size & some_min & order & newest
+    1 <= g.id
+        && (g.slot as u64) < shape.k
+        && 1 <= g.size
+        && g.size <= shape.c
+        && 1 <= g.min
+        && g.min <= g.max
+        && newest_good(g.newest_at, g.size)
 }
 
 // Whether the segment h goes on from g.
+#[tactic(auto, unfolding(crate::specs::Chain::goes_on))]
 fn follows(g: Segment, h: Segment) -> bool
     ensures { result ≡ goes_on g h }
 {
-    let id = next_to(g.id as u64, h.id as u64);
-    let min = next_to(g.max, h.min);
-    id & min
+    g.id.checked_add(1) == Some(h.id) && g.max.checked_add(1) == Some(h.min)
 }
 
 // Whether K, C and M obey the rules and the area has K x C bytes: not refusal 1.
-pub fn sizes_fit(k: u64, c: u64, m: u64, bytes: usize) -> bool
-    ensures { result ≡ roomy_of k c m bytes }
+#[tactic(auto, using(crate::proofs::Fit::product_fits), unfolding(crate::specs::New::roomy_of))]
+pub fn sizes_fit(shape: Shape, bytes: usize) -> bool
+    ensures { result ≡ roomy_of shape.k shape.c shape.m bytes }
 {
-    if !sizes_good(k, c, m) {
-        return false;
-    }
-    same(bytes as u64, k * c)
+    sizes_good(shape) && bytes as u64 == shape.k * shape.c
 }
 
 // And whether there are at most K segments.
-fn numbers_good(k: u64, c: u64, m: u64, count: usize, bytes: usize) -> bool
-    ensures { result ≡ (roomy_of k c m bytes && leb count k) }
+fn numbers_good(shape: Shape, count: usize, bytes: usize) -> bool
+    ensures { result ≡ (roomy_of shape.k shape.c shape.m bytes && leb count shape.k) }
 {
-    let sizes = sizes_fit(k, c, m, bytes);
-    sizes & at_most(count as u64, k)
+    sizes_fit(shape, bytes) && count as u64 <= shape.k
 }
 
 // What is asked of a listed segment g: good by itself, and the one listed after it, if any, goes on from it.
-fn listed_good(k: u64, c: u64, g: Segment, last: bool, later: Segment) -> bool
-    ensures { result ≡ (seg_of k c g && (last || goes_on g later)) }
+fn listed_good(shape: Shape, g: Segment, last: bool, later: Segment) -> bool
+    ensures { result ≡ (seg_of shape.k shape.c g && (last || goes_on g later)) }
 {
-    let good = segment_good(k, c, g);
-    good & (last | follows(g, later))
+    segment_good(shape, g) && (last || follows(g, later))
 }
 
 // The live range begins in the first segment and ends with the last, which ends with a page; (0, 0) where there is no segment.
@@ -146,13 +122,9 @@ fn ends_good(start: u64, end: u64, count: usize, first: Segment, last: Segment) 
         (leb first.min start && leb start first.max && eqb (last.size % 4096) 0 && eqb last.max end) }
 {
     if count == 0 {
-        let none = same(start, 0);
-        return none & same(end, 0);
+        return start == 0 && end == 0;
     }
-    let from = at_most(first.min, start);
-    let to = at_most(start, first.max);
-    let whole_pages = same(last.size % PAGE_SIZE, 0);
-    from & to & whole_pages & same(last.max, end)
+    first.min <= start && start <= first.max && last.size % PAGE_SIZE == 0 && last.max == end
 }
 
 // The place of the last of n entries; 0 where there is none.
@@ -170,7 +142,12 @@ pub fn last_of(n: usize) -> usize
 pub fn fits(log: Log, bytes: usize) -> bool
     ensures { result ≡ fitting_of log bytes }
 {
-    if !numbers_good(log.k, log.c, log.m, log.count, bytes) {
+    let shape = Shape {
+        k: log.k,
+        c: log.c,
+        m: log.m,
+    };
+    if !numbers_good(shape, log.count, bytes) {
         return false;
     }
     let mut unused: usize = log.count;
@@ -186,7 +163,7 @@ pub fn fits(log: Log, bytes: usize) -> bool
     while 0 < i {
         let at = i - 1;
         let g = log.segs[at];
-        if !listed_good(log.k, log.c, g, i == log.count, later) {
+        if !listed_good(shape, g, i == log.count, later) {
             return false;
         }
         let slot = g.slot as usize;
@@ -202,13 +179,13 @@ pub fn fits(log: Log, bytes: usize) -> bool
 }
 
 // A log with no segments, whatever the numbers.
-pub fn empty_log(k: u64, c: u64, m: u64) -> Log
-    ensures { result ≡ log_of (empty_of k c m) }
+pub fn empty_log(shape: Shape) -> Log
+    ensures { result ≡ log_of (empty_of shape.k shape.c shape.m) }
 {
     Log {
-        k,
-        c,
-        m,
+        k: shape.k,
+        c: shape.c,
+        m: shape.m,
         start: 0,
         end: 0,
         count: 0,
@@ -216,20 +193,15 @@ pub fn empty_log(k: u64, c: u64, m: u64) -> Log
     }
 }
 
-// The empty log over K slots of C bytes; the area is not touched.
-pub fn new_log(k: u64, c: u64, m: u64, area: &mut [u8]) -> Logged
-    ensures { (result ≡ new_of k c m (length area.old)) × (area.new ≡ area.old) }
+// The empty log over K slots of C bytes, or refusal 1; the area is not touched.
+#[tactic(auto, unfolding(crate::specs::New::new_of))]
+pub fn new_log(shape: Shape, area: &mut [u8]) -> Result<Log, Refusal>
+    ensures { (logged zero_log result ≡ new_of shape.k shape.c shape.m (length area.old)) × (area.new ≡ area.old) }
 {
-    if !sizes_fit(k, c, m, area.len()) {
-        return Logged {
-            refusal: 1,
-            log: empty_log(0, 0, 0),
-        };
+    if !sizes_fit(shape, area.len()) {
+        return Err(Refusal::OutsideRules);
     }
-    Logged {
-        refusal: 0,
-        log: empty_log(k, c, m),
-    }
+    Ok(empty_log(shape))
 }
 
 // The first and the last live record id; (0, 0) where there is none.
