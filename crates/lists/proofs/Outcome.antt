@@ -1,7 +1,9 @@
 -- The laws of `Outcome`: a refusal is nothing done; its number, and what was done, are one thing; going by the case; and answers that
--- are determined by what they come to. Assumes nothing.
+-- are determined by what they come to; and what a `?` hands on. Assumes nothing.
 use mathlib.Core.Path.{◌≡◌, refl, sym, ap, ◌∙◌}
 use Prim.Native.Nat.{ℕ}
+use Rattle.std.specs.Prelude.{Result, Ok, Err}
+use Rattle.std.specs.Result.{IsErrAnd}
 use Rattle.lists.specs.Outcome.{Outcome, refused, done}
 use Rattle.lists.proofs.Bools.{zero-is-not-one}
 
@@ -25,3 +27,8 @@ by-outcome (done a) if-refused if-done = if-done a refl
 -- an answer that can be told from what it comes to is determined by that
 pub determined : {A O : Type 0} (comes : A → O) (by : O → A) → ((a : A) → by (comes a) ≡ a) → (a b : A) → comes a ≡ comes b → a ≡ b
 determined comes by back a b e = sym (back a) ∙ ap by e ∙ back b
+
+-- what a `?` hands on of an error e
+pub handed-on : {A E : Type 0} (r : Result A E) (e : E) → IsErrAnd r (λ x. x ≡ e) → r ≡ Err e
+handed-on (Ok a) e h = absurd h
+handed-on (Err x) e h = ap Err h

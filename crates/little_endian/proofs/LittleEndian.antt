@@ -3,23 +3,28 @@
 use mathlib.Core.Path.{◌≡◌, refl, sym, ap, ◌∙◌}
 use mathlib.Core.Bool.{true, false}
 use mathlib.Core.List.{List, [], ◌∷◌, ◌++◌}
-use Prim.Native.Nat.{ℕ, zero, suc, ◌+◌, ◌-◌, ◌*◌, ◌/◌, ◌%◌, ◌^◌, ◌≤◌, ◌<◌}
-use native.Mathlib.Nat.{pow-suc, pow-succ', add-zero, zero-add, add-suc, suc-add, add_assoc, one-mul, mul-add, mul_assoc}
+use Prim.Native.Nat.{ℕ, zero, suc, ◌+◌, ◌/◌, ◌%◌, ◌^◌, ◌≤◌, ◌<◌}
+use native.Mathlib.Nat.{pow-suc}
 use native.Mathlib.Nat.{zero-lt-suc, div-lt_iff_lt-mul}
-use native.Mathlib.Numerals.{towards_suc}
 use native.Mathlib.Omega.{arith}
-use lib.Dec.{leb}
-use borrow.Author.Tests.{le-leb, lt-leb}
+use borrow.Author.Tests.{le-leb}
 use lib.ListN.{length, get_or, take, drop, length-append, length-take}
 use lib.Seq.{get_or-append_seam, append_snoc}
-use Rattle.lists.specs.Outcome.{refused, done, either}
+use Rattle.lists.specs.Outcome.{refused, done}
 use Rattle.lists.proofs.Bools.{zero-is-not-one}
-use Rattle.lists.proofs.Outcome.{refused-is-not-done, done-injective, determined}
+use Rattle.lists.proofs.Outcome.{refused-is-not-done, refused-injective, done-injective}
 use Rattle.lists.proofs.Splice.{splice-fits, splice-before, splice-behind}
-use Rattle.lists.proofs.Cases.{by-test, by_order}
-use Rattle.little_endian.specs.declared.U32At.{U32At}
-use Rattle.little_endian.specs.declared.U64At.{U64At}
-use Rattle.little_endian.specs.LittleEndian.{le_bytes, le_at, stand_at, number_at, u32_outcome, u64_outcome, u32_by, u32_at}
+use Rattle.lists.proofs.Cases.{by-test}
+use Rattle.refusal.specs.declared.Refusal.{Refusal}
+use Rattle.refusal.specs.declared.Refusal.TheVariants.{EndsEarly}
+use Rattle.refusal.specs.Refusals.{outcome}
+use Rattle.refusal.proofs.Refusals.{outcomes-differ}
+use Rattle.little_endian.specs.LittleEndian.{le_bytes, le_at, stand_at, bytes_at, number_at, u32_by, u32_at}
+use Rattle.std.specs.Prelude.{Result, Ok, Err}
+use Rattle.std.proofs.Common.{get_or-take, get_or-drop}
+use Rattle.std.specs.Int.{w32, w64, from_le_bytes, to_le_bytes}
+use Rattle.std.proofs.Math.Nat.{div-div-eq-div-mul}
+use Rattle.lists.specs.Splice.{part}
 use Rattle.little_endian.specs.Promised.{WriteRead, LeRead}
 
 -- a number of n bytes has n bytes
@@ -54,32 +59,19 @@ write_read n v at s fits small =
       behind = λ a h. splice-behind at (le_bytes n v) s a (omega arith);
     }
 
+-- the same bytes, wherever they stand, spell the same number
+pub le-shift : (n : ℕ) (s t : List ℕ) (at to : ℕ)
+    → ((i j : ℕ) → i + to ≡ j + at → at ≤ i → i < at + n → get_or s i 0 ≡ get_or t j 0) → le_at n s at ≡ le_at n t to
+unfolding le_at
+le-shift zero s t at to h = refl
+le-shift (suc n) s t at to h =
+    rw (h at to (omega arith) (omega arith) (omega arith), le-shift n s t (suc at) (suc to) (λ i j e low g. h i j (omega arith) (omega arith) (omega arith))) refl
+
 -- two lists with the same bytes there spell the same number
 pub le-agree : (n : ℕ) (s t : List ℕ) (at : ℕ) → ((j : ℕ) → at ≤ j → j < at + n → get_or s j 0 ≡ get_or t j 0) → le_at n s at ≡ le_at n t at
-unfolding le_at
-le-agree zero s t at h = refl
-le-agree (suc n) s t at h =
-    rw (h at (omega arith) (omega arith), le-agree n s t (suc at) (λ j l g. h j (omega arith) (omega arith)))
-
--- two neighbouring numbers are one
-pub le_join : (m n : ℕ) (s : List ℕ) (at : ℕ) → le_at (m + n) s at ≡ le_at m s at + 256 ^ m * le_at n s (at + m)
-unfolding le_at
-le_join zero n s at = simp (zero-add, add-zero, one-mul)
-le_join (suc m) n s at =
-    let step : le_at (suc m + n) s at ≡ get_or s at 0 + 256 * le_at (m + n) s (suc at) = ap (λ (k : ℕ). le_at k s at) (suc-add m n) in
-    step ∙ rw (le_join m n s (suc at), add-suc, suc-add, pow-succ', mul-add, mul_assoc) (sym (add_assoc _ _ _))
-
--- four bytes as a sum
-pub le_four : (s : List ℕ) (at a b c d : ℕ) → a ≡ get_or s at 0 → b ≡ get_or s (at + 1) 0 → c ≡ get_or s (at + 2) 0 → d ≡ get_or s (at + 3) 0
-    → a + 256 * (b + 256 * (c + 256 * d)) ≡ le_at 4 s at
-unfolding le_at
-le_four s at a b c d ea eb ec ed = simp (ea, eb, ec, ed, towards_suc, add-zero)
-
--- that n bytes stand from `at` on, by a difference that does not wrap
-pub stand-shift : (at n len : ℕ) → at ≤ len → leb n (len - at) ≡ leb (at + n) len
-stand-shift at n len h =
-    by_order n (len - at) (λ g. le-leb n (len - at) g ∙ sym (le-leb (at + n) len (omega arith)))
-    (λ g. lt-leb n (len - at) g ∙ sym (lt-leb (at + n) len (omega arith)))
+le-agree n s t at h =
+    le-shift n s t at at
+    (λ i j e low g. h i low g ∙ ap (λ (k : ℕ). get_or t k 0) (omega arith))
 
 -- ---- reading
 
@@ -104,48 +96,82 @@ module _ (n : ℕ) (s : List ℕ) (at : ℕ) where
   pub number-stands : at + n ≤ length s → (m : ℕ) → number_at n s at ≡ refused m → ⊥
   number-stands h m e = refused-is-not-done (sym e ∙ number-reads (le-leb (at + n) (length s) h))
 
--- the u64 that stands there, by its two halves
-pub number-halves : (s : List ℕ) (at : ℕ) → stand_at 8 s at ≡ true
-    → number_at 8 s at ≡ done (le_at 4 s at + 4294967296 * le_at 4 s (at + 4))
-number-halves s at h = number-reads 8 s at h ∙ ap done (le_join 4 4 s at)
+-- the bytes of a part spell what they spell at their place
+part-spells : (n : ℕ) (s : List ℕ) (at : ℕ) → le_at n (part at n s) 0 ≡ le_at n s at
+part-spells n s at =
+    le-shift n (part at n s) s 0 at
+    (λ i j e low h. get_or-take n (drop at s) i 0 (omega arith) ∙ get_or-drop at s i 0 ∙ ap (λ (k : ℕ). get_or s k 0) (omega arith))
 
--- ---- the answers of reading, each determined by its number and value
+-- ---- bytes that stand, and the number that they spell
 
-u32-by : (a : U32At) → u32_by (u32_outcome a) ≡ a
-u32-by (U32At.Value v) = refl
-u32-by U32At.Short = refl
+module _ (n : ℕ) (s : List ℕ) (at : ℕ) where
+  -- bytes are missing
+  pub bytes-refuse-40 : stand_at n s at ≡ false → bytes_at n s at ≡ refused 40
+  unfolding bytes_at
+  bytes-refuse-40 h = simp h
 
-pub u32-determined : (a b : U32At) → u32_outcome a ≡ u32_outcome b → a ≡ b
-u32-determined = determined u32_outcome u32_by u32-by
+  -- the bytes that stand there
+  pub bytes-read : stand_at n s at ≡ true → bytes_at n s at ≡ done (part at n s)
+  unfolding bytes_at
+  bytes-read h = simp h
 
--- what `read_u32` answers, by its contract, as the case that it is
-pub u32-answer : (a : U32At) (s : List ℕ) (at : ℕ) → u32_outcome a ≡ number_at 4 s at → a ≡ u32_at s at
-unfolding u32_at
-u32-answer a s at e = sym (u32-by a) ∙ ap u32_by e
+  -- what isn't read as bytes isn't read as a number
+  pub number-refused : (m : ℕ) → refused m ≡ bytes_at n s at → number_at n s at ≡ refused m
+  number-refused m e =
+      by-test (stand_at n s at) (λ h. refused-is-not-done (e ∙ bytes-read h))
+      (λ h. let q = e ∙ bytes-refuse-40 h in number-refuses-40 n s at h ∙ ap refused (sym (refused-injective q)))
 
-u64-by : (a : U64At) → either (λ n. U64At.Short) (λ v. U64At.Value v) (u64_outcome a) ≡ a
-u64-by (U64At.Value v) = refl
-u64-by U64At.Short = refl
+  -- what is read as bytes is read as the number that they spell
+  pub number-of : (b : List ℕ) → done b ≡ bytes_at n s at → number_at n s at ≡ done (le_at n b 0)
+  number-of b e =
+      by-test (stand_at n s at)
+      (λ h. number-reads n s at h ∙ ap done (sym (part-spells n s at) ∙ ap (λ (l : List ℕ). le_at n l 0) (sym (done-injective (e ∙ bytes-read h)))))
+      (λ h. refused-is-not-done (sym (e ∙ bytes-refuse-40 h)))
 
-pub u64-determined : (a b : U64At) → u64_outcome a ≡ u64_outcome b → a ≡ b
-u64-determined = determined u64_outcome (either (λ n. U64At.Short) (λ v. U64At.Value v)) u64-by
+-- the library's numbers of 4 and 8 bytes, and their bytes
+
+pub u32-from : (b : List ℕ) → from_le_bytes w32 b ≡ le_at 4 b 0
+unfolding le_at
+u32-from b = omega arith
+
+pub u64-from : (b : List ℕ) → from_le_bytes w64 b ≡ le_at 8 b 0
+unfolding le_at
+u64-from b = omega arith
+
+pub u32-bytes : (v : ℕ) → to_le_bytes w32 v ≡ le_bytes 4 v
+unfolding le_bytes
+u32-bytes v = simp div-div-eq-div-mul
+
+pub u64-bytes : (v : ℕ) → to_le_bytes w64 v ≡ le_bytes 8 v
+unfolding le_bytes
+u64-bytes v = simp div-div-eq-div-mul
 
 -- ---- the u32 at a place, by whether its bytes stand
 
-pub u32-short : (s : List ℕ) (at : ℕ) → stand_at 4 s at ≡ false → u32_at s at ≡ U32At.Short
+pub u32-short : (s : List ℕ) (at : ℕ) → stand_at 4 s at ≡ false → u32_at s at ≡ Err EndsEarly
 unfolding u32_at
 u32-short s at h = ap u32_by (number-refuses-40 4 s at h)
 
-pub u32-value : (s : List ℕ) (at : ℕ) → stand_at 4 s at ≡ true → u32_at s at ≡ U32At.Value (le_at 4 s at)
+pub u32-value : (s : List ℕ) (at : ℕ) → stand_at 4 s at ≡ true → u32_at s at ≡ Ok (le_at 4 s at)
 unfolding u32_at
 u32-value s at h = ap u32_by (number-reads 4 s at h)
 
+-- it comes to what reading the four bytes comes to
+pub u32-comes : (s : List ℕ) (at : ℕ) → outcome (u32_at s at) ≡ number_at 4 s at
+u32-comes s at =
+    by-test (stand_at 4 s at) (λ h. ap outcome (u32-value s at h) ∙ sym (number-reads 4 s at h))
+    (λ h. ap outcome (u32-short s at h) ∙ sym (number-refuses-40 4 s at h))
+
+-- what `read_u32` answers, by its contract, as the case that it is
+pub u32-answer : (a : Result ℕ Refusal) (s : List ℕ) (at : ℕ) → outcome a ≡ number_at 4 s at → a ≡ u32_at s at
+u32-answer a s at e = outcomes-differ ℕ a (u32_at s at) (e ∙ sym (u32-comes s at))
+
 -- a u32 that was read is what the four bytes spell
-pub u32-is : (s : List ℕ) (at v : ℕ) → u32_at s at ≡ U32At.Value v → le_at 4 s at ≡ v
+pub u32-is : (s : List ℕ) (at v : ℕ) → u32_at s at ≡ Ok v → le_at 4 s at ≡ v
 u32-is s at v e =
     by-test (stand_at 4 s at) (λ h. let q = sym (u32-value s at h) ∙ e in cc)
     (λ h. let q = sym (u32-short s at h) ∙ e in zero-is-not-one (cc))
 
 -- a u32 whose bytes stand is read
-pub u32-stands : (s : List ℕ) (at : ℕ) → at + 4 ≤ length s → u32_at s at ≡ U32At.Short → ⊥
-u32-stands s at h e = let q = sym (u32-value s at (le-leb (at + 4) (length s) h)) ∙ e in zero-is-not-one (cc)
+pub u32-stands : (s : List ℕ) (at : ℕ) (r : Refusal) → at + 4 ≤ length s → u32_at s at ≡ Err r → ⊥
+u32-stands s at r h e = let q = sym (u32-value s at (le-leb (at + 4) (length s) h)) ∙ e in zero-is-not-one (cc)

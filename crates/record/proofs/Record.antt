@@ -14,15 +14,17 @@ use Rattle.lists.specs.Choice.{pick}
 use Rattle.lists.specs.Outcome.{refused, done}
 use Rattle.lists.specs.Splice.{part, splice}
 use Rattle.lists.proofs.Bools.{zero-is-not-one}
-use Rattle.lists.proofs.Outcome.{determined}
 use Rattle.lists.proofs.Splice.{splice-join}
 use Rattle.page.proofs.Page.{pad-ge, pad-lt, pad-multiple}
 use Rattle.little_endian.specs.LittleEndian.{le_at, le_bytes}
 use Rattle.little_endian.proofs.LittleEndian.{le-bytes-length, le_read}
+use Rattle.refusal.specs.declared.Refusal.{Refusal}
+use Rattle.refusal.specs.declared.Refusal.TheVariants.{ShortHeader}
+use Rattle.refusal.specs.Refusals.{outcome}
+use Rattle.refusal.proofs.Refusals.{outcomes-differ}
+use Rattle.std.specs.Prelude.{Result, Ok, Err}
 use Rattle.record.specs.declared.RecordHeader.{RecordHeader}
-use Rattle.record.specs.declared.HeaderAnswer.{HeaderAnswer}
-use Rattle.record.specs.declared.HeaderAnswer.TheVariants.{Header, Short, TooLong}
-use Rattle.record.specs.Record.{max_payload, header_bytes, record_room, record_bytes, header_outcome, header_of, header_by, header_at}
+use Rattle.record.specs.Record.{max_payload, header_bytes, record_room, record_bytes, header_of, header_by, header_at}
 use Rattle.record.specs.Promised.{RecordLength, RecordReads, RecordPayload}
 
 -- a header of a length and an id
@@ -99,23 +101,26 @@ module _ (img : List ℕ) (pos : ℕ) where
   header-reads n i h e f l = simp (le-ltb _ _ h, e, f, le-ltb max_payload n l)
 
   -- as answers: too short
-  pub header-short : length img - pos < 12 → header_at img pos ≡ Short
+  pub header-short : length img - pos < 12 → header_at img pos ≡ Err ShortHeader
   unfolding header_at
   header-short h = ap header_by (header-refuses-17 h)
 
-header-by : (a : HeaderAnswer) → header_by (header_outcome a) ≡ a
-header-by (Header h) = refl
-header-by Short = refl
-header-by TooLong = refl
+-- it comes to what reading the header comes to
+pub header-comes : (img : List ℕ) (pos : ℕ) → outcome (header_at img pos) ≡ header_of img pos
+unfolding header_at header_of
+header-comes img pos = go (ltb (length img - pos) 12) (ltb max_payload (le_at 4 img pos))
+  where
+    h : RecordHeader
+    h = header (le_at 4 img pos) (le_at 8 img (pos + 4))
 
--- an answer is determined by its number and value
-pub header-determined : (a b : HeaderAnswer) → header_outcome a ≡ header_outcome b → a ≡ b
-header-determined = determined header_outcome header_by header-by
+    go : (a b : Bool) → outcome (header_by (pick a (refused 17) (pick b (refused 18) (done h)))) ≡ pick a (refused 17) (pick b (refused 18) (done h))
+    go true b = refl
+    go false true = refl
+    go false false = refl
 
 -- what `read_header` answers, by its contract, as the case that it is
-pub header-answer : (a : HeaderAnswer) (img : List ℕ) (pos : ℕ) → header_outcome a ≡ header_of img pos → a ≡ header_at img pos
-unfolding header_at
-header-answer a img pos e = sym (header-by a) ∙ ap header_by e
+pub header-answer : (a : Result RecordHeader Refusal) (img : List ℕ) (pos : ℕ) → outcome a ≡ header_of img pos → a ≡ header_at img pos
+header-answer a img pos e = outcomes-differ RecordHeader a (header_at img pos) (e ∙ sym (header-comes img pos))
 
 -- what a header that was read tells of its place
 pub record Readable (img : List ℕ) (pos n i : ℕ) : Type 0 where
@@ -124,12 +129,12 @@ pub record Readable (img : List ℕ) (pos n i : ℕ) : Type 0 where
   pub length-there : le_at 4 img pos ≡ n
   pub id-there : le_at 8 img (pos + 4) ≡ i
 
-pub readable : (img : List ℕ) (pos n i : ℕ) → header_at img pos ≡ Header (header n i) → Readable img pos n i
+pub readable : (img : List ℕ) (pos n i : ℕ) → header_at img pos ≡ Ok (header n i) → Readable img pos n i
 unfolding header_at header_of
 readable img pos n i e = go (ltb (length img - pos) 12) (ltb max_payload (le_at 4 img pos)) refl refl e
   where
     go : (a b : Bool) → ltb (length img - pos) 12 ≡ a → ltb max_payload (le_at 4 img pos) ≡ b
-        → header_by (pick a (refused 17) (pick b (refused 18) (done (header (le_at 4 img pos) (le_at 8 img (pos + 4)))))) ≡ Header (header n i)
+        → header_by (pick a (refused 17) (pick b (refused 18) (done (header (le_at 4 img pos) (le_at 8 img (pos + 4)))))) ≡ Ok (header n i)
         → Readable img pos n i
     go true b ea eb h = zero-is-not-one (cc)
     go false true ea eb h = zero-is-not-one (cc)
@@ -161,7 +166,7 @@ record-reads id p pre post at e small fits =
 
 -- a record's bytes are read as its header, as an answer of `read_header`
 pub record-header : (id : ℕ) (p pre post : List ℕ) (at : ℕ) → at ≡ length pre → length p ≤ max_payload → id < 2 ^ 64
-    → header_at (pre ++ (record_bytes id p ++ post)) at ≡ Header (header (length p) id)
+    → header_at (pre ++ (record_bytes id p ++ post)) at ≡ Ok (header (length p) id)
 unfolding header_at
 record-header id p pre post at e small fits = ap header_by (record-reads id p pre post at e small fits)
 

@@ -2,16 +2,13 @@
 -- Assumes nothing.
 use Rattle.lists.specs.Unique.{UniqueAnswer, UniqueMemory}
 use Rattle.lists.proofs.Unique.{unique}
-use Rattle.record.proofs.Record.{header-determined}
+use Rattle.refusal.proofs.Refusals.{outcomes-differ}
+use Rattle.record.specs.declared.RecordHeader.{RecordHeader}
 use Rattle.record.proofs.read_header.Reads as read-header
 use Rattle.record.proofs.write_header.Reads as write-header
-use Rattle.record.proofs.header_number.Reads as header-number
 
 pub read-header-unique : UniqueAnswer read-header.Learnt
-read-header-unique κs a r r' e e' p q = header-determined r r' (unique p q)
+read-header-unique κs a r r' e e' p q = outcomes-differ RecordHeader r r' (unique p q)
 
 pub write-header-unique : UniqueMemory write-header.Learnt (λ _ e. e.0.now)
 write-header-unique κs a r r' e e' = unique
-
-pub header-number-unique : UniqueAnswer header-number.Learnt
-header-number-unique κs a r r' e e' = unique

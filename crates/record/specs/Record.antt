@@ -1,13 +1,13 @@
 -- A record: "length u32 little-endian, record id u64 little-endian, payload, zeros to the next multiple of 4096".
 -- Writer, walk and cut all cite the definitions of this file. Laws: proofs/Record.antt. Assumes nothing.
-use Rattle.std.specs.Prelude.{List, [], ◌∷◌, ◌++◌, ℕ, ◌+◌, ◌-◌, length, replicate, ltb, eqb}
+use Rattle.std.specs.Prelude.{List, [], ◌∷◌, ◌++◌, ℕ, ◌+◌, ◌-◌, length, replicate, ltb, eqb, Result, Ok, Err}
 use Rattle.lists.specs.Choice.{pick, ◌⇒◌, first}
-use Rattle.lists.specs.Outcome.{Outcome, refused, done, either}
+use Rattle.lists.specs.Outcome.{Outcome, refused, done}
 use Rattle.page.specs.Page.{padded_end}
 use Rattle.little_endian.specs.LittleEndian.{le_at, le_bytes}
+use Rattle.refusal.specs.declared.Refusal.{Refusal}
+use Rattle.refusal.specs.declared.Refusal.TheVariants.{ShortHeader, HeaderTooLong}
 use Rattle.record.specs.declared.RecordHeader.{RecordHeader}
-use Rattle.record.specs.declared.HeaderAnswer.{HeaderAnswer}
-use Rattle.record.specs.declared.HeaderAnswer.TheVariants.{Header, Short, TooLong}
 
 -- the most bytes that a payload may have
 abbrev pub max_payload : ℕ
@@ -27,16 +27,6 @@ record_bytes id payload =
     le_bytes 4 (length payload)
     ++ (le_bytes 8 id ++ (payload ++ replicate (record_room (length payload) - (12 + length payload)) 0))
 
--- document 01's number, or the header, of each answer of `read_header`
-abbrev pub header_outcome : HeaderAnswer → Outcome RecordHeader
-header_outcome (Header h) = done h
-header_outcome Short = refused 17
-header_outcome TooLong = refused 18
-
--- the number of a header that can't be read; 0 of one that can
-abbrev pub header_number : HeaderAnswer → ℕ
-header_number answer = either (λ n. n) (λ h. 0) (header_outcome answer)
-
 -- what stands at a position of an image, read as a header: 17 short header, 18 header length above 2^30
 unfoldable pub header_of : List ℕ → ℕ → Outcome RecordHeader
 header_of img pos =
@@ -44,10 +34,10 @@ header_of img pos =
     (done (record { length = le_at 4 img pos; id = le_at 8 img (pos + 4) }))
 
 -- the answer that an outcome belongs to
-abbrev pub header_by : Outcome RecordHeader → HeaderAnswer
-header_by (done h) = Header h
-header_by (refused n) = pick (eqb n 17) Short TooLong
+abbrev pub header_by : Outcome RecordHeader → Result RecordHeader Refusal
+header_by (done h) = Ok h
+header_by (refused n) = Err (pick (eqb n 17) ShortHeader HeaderTooLong)
 
 -- the header at a position as an answer of `read_header`, for those who go on by its cases
-unfoldable pub header_at : List ℕ → ℕ → HeaderAnswer
+unfoldable pub header_at : List ℕ → ℕ → Result RecordHeader Refusal
 header_at img pos = header_by (header_of img pos)
