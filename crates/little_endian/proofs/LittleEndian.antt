@@ -157,14 +157,14 @@ unfolding u32_at
 u32-value s at h = ap u32_by (number-reads 4 s at h)
 
 -- it comes to what reading the four bytes comes to
-pub u32-comes : (s : List ℕ) (at : ℕ) → outcome (u32_at s at) ≡ number_at 4 s at
-u32-comes s at =
+pub u32_at-outcome : (s : List ℕ) (at : ℕ) → outcome (u32_at s at) ≡ number_at 4 s at
+u32_at-outcome s at =
     by-test (stand_at 4 s at) (λ h. ap outcome (u32-value s at h) ∙ sym (number-reads 4 s at h))
     (λ h. ap outcome (u32-short s at h) ∙ sym (number-refuses-40 4 s at h))
 
 -- what `read_u32` answers, by its contract, as the case that it is
 pub u32-answer : (a : Result ℕ Refusal) (s : List ℕ) (at : ℕ) → outcome a ≡ number_at 4 s at → a ≡ u32_at s at
-u32-answer a s at e = outcomes-differ ℕ a (u32_at s at) (e ∙ sym (u32-comes s at))
+u32-answer a s at e = outcomes-differ ℕ a (u32_at s at) (e ∙ sym (u32_at-outcome s at))
 
 -- a u32 that was read is what the four bytes spell
 pub u32-is : (s : List ℕ) (at v : ℕ) → u32_at s at ≡ Ok v → le_at 4 s at ≡ v

@@ -106,9 +106,9 @@ module _ (img : List ℕ) (pos : ℕ) where
   header-short h = ap header_by (header-refuses-17 h)
 
 -- it comes to what reading the header comes to
-pub header-comes : (img : List ℕ) (pos : ℕ) → outcome (header_at img pos) ≡ header_of img pos
+pub header_at-outcome : (img : List ℕ) (pos : ℕ) → outcome (header_at img pos) ≡ header_of img pos
 unfolding header_at header_of
-header-comes img pos = go (ltb (length img - pos) 12) (ltb max_payload (le_at 4 img pos))
+header_at-outcome img pos = go (ltb (length img - pos) 12) (ltb max_payload (le_at 4 img pos))
   where
     h : RecordHeader
     h = header (le_at 4 img pos) (le_at 8 img (pos + 4))
@@ -120,7 +120,7 @@ header-comes img pos = go (ltb (length img - pos) 12) (ltb max_payload (le_at 4 
 
 -- what `read_header` answers, by its contract, as the case that it is
 pub header-answer : (a : Result RecordHeader Refusal) (img : List ℕ) (pos : ℕ) → outcome a ≡ header_of img pos → a ≡ header_at img pos
-header-answer a img pos e = outcomes-differ RecordHeader a (header_at img pos) (e ∙ sym (header-comes img pos))
+header-answer a img pos e = outcomes-differ RecordHeader a (header_at img pos) (e ∙ sym (header_at-outcome img pos))
 
 -- what a header that was read tells of its place
 pub record Readable (img : List ℕ) (pos n i : ℕ) : Type 0 where
