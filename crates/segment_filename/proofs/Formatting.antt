@@ -1,22 +1,16 @@
--- The laws of a written name: its length, its pieces, the cases of what `format` answers and leaves in the buffer, and that an answer
--- is determined by its number and value.
+-- The laws of a written name: its length, its pieces, and the cases of what `format` answers and leaves in the buffer.
 -- Assumes nothing.
 use mathlib.Core.Path.{◌≡◌, refl, ap, ◌∙◌}
 use mathlib.Core.List.{List, ◌++◌, append_assoc}
 use Prim.Native.Nat.{ℕ, ◌+◌, ◌≤◌, ◌<◌}
 use native.Mathlib.Omega.{arith}
 use lib.ListN.{length, length-append}
-use lib.Dec.{eqb}
 use borrow.Author.Tests.{eq-eqb, ne_eqb, lt-ltb, le-ltb}
-use Rattle.lists.specs.Choice.{pick}
 use Rattle.lists.specs.Outcome.{Outcome, refused, done}
 use Rattle.lists.specs.Splice.{splice}
 use Rattle.lists.proofs.Splice.{splice-join}
-use Rattle.lists.proofs.Outcome.{determined}
-use Rattle.segment_filename.specs.declared.Formatted.{Formatted}
-use Rattle.segment_filename.specs.declared.Formatted.TheVariants.{Length, EmptyPrefix, BufferShort}
 use Rattle.segment_filename.specs.Digits.{digits}
-use Rattle.segment_filename.specs.Formatting.{dot, suffix, name_of, format_outcome, format_of, format_into}
+use Rattle.segment_filename.specs.Formatting.{dot, suffix, name_of, format_of, format_into}
 use Rattle.segment_filename.proofs.Digits.{digits-length}
 
 -- a name is as long as its prefix and 15 bytes
@@ -65,17 +59,3 @@ module _ (prefix : List ℕ) (id : ℕ) (out : List ℕ) where
     unfolding format_of format_into
     format-accepts h =
         let t = ne_eqb (length prefix) 0 some in let u = le-ltb (length out) (length prefix + 15) h in (simp (t, u), simp (t, u))
-
--- the answer of an outcome
-abbrev formatted_by : Outcome ℕ → Formatted
-formatted_by (done n) = Length n
-formatted_by (refused n) = pick (eqb n 30) EmptyPrefix BufferShort
-
-formatted-by : (a : Formatted) → formatted_by (format_outcome a) ≡ a
-formatted-by (Length n) = refl
-formatted-by EmptyPrefix = refl
-formatted-by BufferShort = refl
-
--- an answer is determined by its number and value
-pub format-determined : (a b : Formatted) → format_outcome a ≡ format_outcome b → a ≡ b
-format-determined = determined format_outcome formatted_by formatted-by

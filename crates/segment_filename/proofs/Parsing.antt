@@ -1,21 +1,15 @@
--- The cases of what `parse` answers, one behind the other, in document 01's order; and that an answer is determined by its number and
--- value. Assumes nothing.
-use mathlib.Core.Path.{◌≡◌, refl}
+-- The cases of what `parse` answers, one behind the other, in document 01's order.
+-- Assumes nothing.
+use mathlib.Core.Path.{◌≡◌}
 use mathlib.Core.Bool.{true, false}
-use mathlib.Core.List.{List, [], ◌∷◌}
+use mathlib.Core.List.{List}
 use Prim.Native.Nat.{ℕ}
 use lib.ListN.{length}
-use lib.Dec.{eqb}
 use borrow.Author.Tests.{eq-eqb, ne_eqb}
-use Rattle.lists.specs.Choice.{◌⇒◌, first}
-use Rattle.lists.specs.Outcome.{Outcome, refused, done}
-use Rattle.lists.proofs.Outcome.{determined}
-use Rattle.segment_filename.specs.declared.Parsed.{Parsed}
-use Rattle.segment_filename.specs.declared.Parsed.TheVariants.{Id, EmptyPrefix, PrefixMissing, SuffixMissing}
-use Rattle.segment_filename.specs.declared.Parsed.TheVariants.{DotMissing, NotTenBytes, NotU32}
+use Rattle.lists.specs.Outcome.{refused}
 use Rattle.segment_filename.specs.Words.{starts_with, ends_with}
 use Rattle.segment_filename.specs.Formatting.{dot, suffix}
-use Rattle.segment_filename.specs.Parsing.{parse_outcome, without_prefix, without_suffix, id_bytes, u32_of, parse_of}
+use Rattle.segment_filename.specs.Parsing.{without_prefix, without_suffix, id_bytes, u32_of, parse_of}
 
 module _ (prefix name : List ℕ) where
   pub parse-refuses-30 : length prefix ≡ 0 → parse_of prefix name ≡ refused 30
@@ -46,29 +40,3 @@ module _ (prefix name : List ℕ) where
           pub parse-reads : length (id_bytes prefix name) ≡ 10 → parse_of prefix name ≡ u32_of (id_bytes prefix name)
           unfolding parse_of
           parse-reads h = simp (ne_eqb (length prefix) 0 some, begins, ends, dotted, eq-eqb (length (id_bytes prefix name)) 10 h)
-
--- the answer of an outcome
-abbrev parsed_by : Outcome ℕ → Parsed
-parsed_by (done v) = Id v
-parsed_by (refused n) =
-    first
-    ((eqb n 30 ⇒ EmptyPrefix)
-    ∷ (eqb n 31 ⇒ PrefixMissing)
-    ∷ (eqb n 32 ⇒ SuffixMissing)
-    ∷ (eqb n 33 ⇒ DotMissing)
-    ∷ (eqb n 34 ⇒ NotTenBytes)
-    ∷ [])
-    NotU32
-
-parsed-by : (a : Parsed) → parsed_by (parse_outcome a) ≡ a
-parsed-by (Id v) = refl
-parsed-by EmptyPrefix = refl
-parsed-by PrefixMissing = refl
-parsed-by SuffixMissing = refl
-parsed-by DotMissing = refl
-parsed-by NotTenBytes = refl
-parsed-by NotU32 = refl
-
--- an answer is determined by its number and value
-pub parse-determined : (a b : Parsed) → parse_outcome a ≡ parse_outcome b → a ≡ b
-parse-determined = determined parse_outcome parsed_by parsed-by

@@ -2,31 +2,10 @@
 -- Laws: proofs/Parsing.antt. Assumes nothing.
 use Rattle.std.specs.Prelude.{not, List, [], ◌∷◌, ℕ, length, eqb}
 use Rattle.lists.specs.Choice.{◌⇒◌, first}
-use Rattle.lists.specs.Outcome.{Outcome, refused, done, either}
-use Rattle.segment_filename.specs.declared.Parsed.{Parsed}
-use Rattle.segment_filename.specs.declared.Parsed.TheVariants.{Id, EmptyPrefix, PrefixMissing, SuffixMissing}
-use Rattle.segment_filename.specs.declared.Parsed.TheVariants.{DotMissing, NotTenBytes, NotU32}
+use Rattle.lists.specs.Outcome.{Outcome, refused, done}
 use Rattle.segment_filename.specs.Words.{is_empty, starts_with, ends_with, behind, before}
 use Rattle.segment_filename.specs.Digits.{is_u32, value_of}
 use Rattle.segment_filename.specs.Formatting.{dot, suffix}
-
--- document 01's number, or the id, of each answer of `parse`
-abbrev pub parse_outcome : Parsed → Outcome ℕ
-parse_outcome (Id v) = done v
-parse_outcome EmptyPrefix = refused 30
-parse_outcome PrefixMissing = refused 31
-parse_outcome SuffixMissing = refused 32
-parse_outcome DotMissing = refused 33
-parse_outcome NotTenBytes = refused 34
-parse_outcome NotU32 = refused 35
-
--- the refusal number; 0 where it is accepted
-abbrev pub parse_number : Parsed → ℕ
-parse_number answer = either (λ n. n) (λ v. 0) (parse_outcome answer)
-
--- the id; 0 where it is refused
-abbrev pub parse_id : Parsed → ℕ
-parse_id answer = either (λ n. 0) (λ v. v) (parse_outcome answer)
 
 -- a name without its prefix
 abbrev pub without_prefix : List ℕ → List ℕ → List ℕ

@@ -1,13 +1,11 @@
 -- Words at the two ends of a list of bytes: whether a list begins or ends with a word, and what is left without it.
 -- Laws: proofs/Words.antt. Assumes nothing.
-use Rattle.std.specs.Prelude.{Bool, true, false, ◌&&◌, List, [], ◌∷◌, ℕ, ◌-◌, length, take, drop, eqb}
+use Rattle.std.specs.Prelude.{Bool, List, ℕ, ◌-◌, length, take, drop, eqb}
+use Rattle.std.specs.Str.{bytes_eq}
 
 -- whether two lists have the same bytes
-unfoldable pub same : List ℕ → List ℕ → Bool
-same [] [] = true
-same [] (y ∷ ys) = false
-same (x ∷ xs) [] = false
-same (x ∷ xs) (y ∷ ys) = eqb x y && same xs ys
+abbrev pub same : List ℕ → List ℕ → Bool
+same = bytes_eq
 
 -- whether a list has no byte
 abbrev pub is_empty : List ℕ → Bool

@@ -16,13 +16,8 @@ returns-then-n-eq0 c =
     let a = c.args in
     let both = format-refuses-30 a.prefix.now a.id a.out.now c.if-n-eq0.true in record { answer = both.0; buffer = both.1 }
 
-pub returns-then-out-lt15 : goal.returns-then-out-lt15
-returns-then-out-lt15 c =
-    let a = c.args in
-    let both = format-refuses-36 a.prefix.now a.id a.out.now c.if-n-eq0.false (omega arith) in record { answer = both.0; buffer = both.1 }
-
-pub returns-then-out-n : goal.returns-then-out-n
-returns-then-out-n c =
+pub returns-then-saturating_sub-n : goal.returns-then-saturating_sub-n
+returns-then-saturating_sub-n c =
     let a = c.args in
     let both = format-refuses-36 a.prefix.now a.id a.out.now c.if-n-eq0.false (omega arith) in record { answer = both.0; buffer = both.1 }
 

@@ -1,151 +1,112 @@
 -- `segment_filename::parse` meets its contract: each step's test is the definition's, on the part that the steps before it left.
 -- Assumes nothing.
-use mathlib.Core.Path.{◌≡◌, sym, ap, ◌∙◌}
-use mathlib.Core.Bool.{true}
-use mathlib.Core.List.{List}
-use Prim.Native.Nat.{ℕ, ◌≤◌, ◌-◌}
-use native.Mathlib.Omega.{arith}
-use lib.ListN.{length, take, drop, length-take}
-use borrow.Author.Rules.{rules}
-use Rattle.lists.specs.Splice.{part}
-use Rattle.segment_filename.specs.Words.{starts_with, ends_with}
+use Rattle.std.proofs.Common.{rules, ◌≡◌, length, ℕ, sym, ap, ◌∙◌, true, List, Bor, subst}
+use Rattle.std.specs.Prelude.{Option, Some, None, Ok, Err, MatchOption}
+use Rattle.std.specs.Option.{ok_or}
+use Rattle.refusal.specs.declared.Refusal.{Refusal}
+use Rattle.refusal.specs.declared.Refusal.TheVariants.{PrefixMissing, SuffixMissing, DotMissing}
+use Rattle.refusal.specs.Refusals.{outcome}
+use Rattle.segment_filename.specs.Words.{starts_with, ends_with, behind, before}
 use Rattle.segment_filename.specs.Formatting.{dot, suffix}
 use Rattle.segment_filename.specs.Parsing.{without_prefix, without_suffix, id_bytes, u32_of}
-use Rattle.segment_filename.proofs.Words.{starts-long, ends-long, part-rest}
 use Rattle.segment_filename.proofs.Parsing.{parse-refuses-30, parse-refuses-31, parse-refuses-32, parse-refuses-33}
 use Rattle.segment_filename.proofs.Parsing.{parse-refuses-34, parse-reads}
 use Rattle.segment_filename.proofs.parse.Goals as goal
 
-pub returns-then-n-eq0 : goal.returns-then-n-eq0
-returns-then-n-eq0 c =
-    let a = c.args in sym (parse-refuses-30 a.prefix.now a.name.now c.if-n-eq0.true)
+-- a step that is refused: what it wants isn't there
+missing : (P : Type 0) (Q : Bor (List ℕ) → Type 0) (o : Option (Bor (List ℕ))) (r x : Refusal) → MatchOption o P Q → ok_or o r ≡ Err x
+    → P × (x ≡ r)
+missing P Q None r x m e = (m, cc)
+missing P Q (Some y) r x m e = absurd (cc)
 
-pub returns-then-not-matches_at : goal.returns-then-not-matches_at
-unfolding starts_with
-returns-then-not-matches_at c =
-    let a = c.args in
-    sym (parse-refuses-31 a.prefix.now a.name.now c.if-n-eq0.false
-    (sym c.matches_at.ensures ∙ c.if-not-matches_at.true))
+-- a step that is passed: it is there
+passed : (P : Type 0) (Q : Bor (List ℕ) → Type 0) (o : Option (Bor (List ℕ))) (r : Refusal) (x : Bor (List ℕ)) → MatchOption o P Q
+    → ok_or o r ≡ Ok x → Q x
+passed P Q None r x m e = absurd (cc)
+passed P Q (Some y) r x m e = let same : y ≡ x = cc in subst Q same m
 
-pub slice_bounds-without_prefix-count : goal.slice_bounds-without_prefix-count
-unfolding starts_with
-slice_bounds-without_prefix-count c =
+pub returns-then-is_empty : goal.returns-then-is_empty
+returns-then-is_empty c =
+    let none : length c.args.prefix.now ≡ 0 = search rules in
+    sym (parse-refuses-30 c.args.prefix.now c.args.name.now none)
+
+pub returns-in_err-without_prefix : goal.returns-in_err-without_prefix
+unfolding starts_with ends_with
+returns-in_err-without_prefix c =
     let prefix-of = c.args.prefix.now in
     let name_of = c.args.name.now in
-    let begins : starts_with prefix-of name_of ≡ true = sym c.matches_at.ensures ∙ c.if-not-matches_at.false in
-    let prefix-fits : length prefix-of ≤ length name_of = starts-long name_of prefix-of begins in
-    prefix-fits
+    let some : length c.args.prefix.now ≡ 0 → ⊥ = search rules in
+    let none =
+    missing _ _ c.strip_prefix.result PrefixMissing c.in_err-without_prefix.field-0.0 c.strip_prefix.ensures.cases (sym c.ok_or.ensures.value ∙ c.in_err-without_prefix.was) in
+    let answer : c.from_residual.result ≡ Err c.in_err-without_prefix.field-0.0 = search rules in
+    ap outcome (answer ∙ ap Err none.1) ∙ sym (parse-refuses-31 prefix-of name_of some none.0)
 
-pub slice_bounds-without_prefix-start : goal.slice_bounds-without_prefix-start
-unfolding starts_with
-slice_bounds-without_prefix-start c =
+pub returns-in_err-without_suffix : goal.returns-in_err-without_suffix
+unfolding starts_with ends_with
+returns-in_err-without_suffix c =
     let prefix-of = c.args.prefix.now in
     let name_of = c.args.name.now in
-    let begins : starts_with prefix-of name_of ≡ true = sym c.matches_at.ensures ∙ c.if-not-matches_at.false in
-    let prefix-fits : length prefix-of ≤ length name_of = starts-long name_of prefix-of begins in
-    let h = prefix-fits in search rules
+    let some : length c.args.prefix.now ≡ 0 → ⊥ = search rules in
+    let begins =
+    passed _ _ c.strip_prefix.result PrefixMissing c.in_ok-without_prefix.without_prefix c.strip_prefix.ensures.cases (sym c.ok_or.ensures.value ∙ c.in_ok-without_prefix.was) in
+    let none =
+    missing _ _ c.strip_suffix.result SuffixMissing c.in_err-without_suffix.field-0.0 c.strip_suffix.ensures.cases (sym c.ok_or-2.ensures.value ∙ c.in_err-without_suffix.was) in
+    let answer : c.from_residual-in_err-without_suffix.result ≡ Err c.in_err-without_suffix.field-0.0 = search rules in
+    ap outcome (answer ∙ ap Err none.1) ∙ sym (parse-refuses-32 prefix-of name_of some begins.0 (ap (ends_with suffix) (sym begins.1) ∙ none.0))
 
-pub returns-then-not-ends_with : goal.returns-then-not-ends_with
-unfolding starts_with
-returns-then-not-ends_with c =
+pub returns-in_err-ten : goal.returns-in_err-ten
+unfolding starts_with ends_with
+returns-in_err-ten c =
     let prefix-of = c.args.prefix.now in
     let name_of = c.args.name.now in
-    let some : length prefix-of ≡ 0 → ⊥ = c.if-n-eq0.false in
-    let begins : starts_with prefix-of name_of ≡ true = sym c.matches_at.ensures ∙ c.if-not-matches_at.false in
-    let rest_of = part (length prefix-of) (length name_of - length prefix-of) name_of in
-    let rest-is : rest_of ≡ without_prefix prefix-of name_of = part-rest (length prefix-of) name_of in
-    sym (parse-refuses-32 prefix-of name_of some begins
-    (ap (ends_with suffix) (sym rest-is) ∙ sym c.ends_with.ensures ∙ c.if-not-ends_with.true))
-
-pub overflow_sub-end : goal.overflow_sub-end
-overflow_sub-end c =
-    let prefix-of = c.args.prefix.now in
-    let name_of = c.args.name.now in
-    let rest_of = part (length prefix-of) (length name_of - length prefix-of) name_of in
-    let suffix-fits : 4 ≤ length rest_of = ends-long rest_of suffix
-    (sym c.ends_with.ensures ∙ c.if-not-ends_with.false) in
-    suffix-fits
-
-pub slice_bounds-without_suffix-end : goal.slice_bounds-without_suffix-end
-slice_bounds-without_suffix-end c =
-    let prefix-of = c.args.prefix.now in
-    let name_of = c.args.name.now in
-    let rest_of = part (length prefix-of) (length name_of - length prefix-of) name_of in
-    let suffix-fits : 4 ≤ length rest_of = ends-long rest_of suffix
-    (sym c.ends_with.ensures ∙ c.if-not-ends_with.false) in
-    let h = suffix-fits in simp length-take (omega arith)
-
-pub returns-then-not-matches_at-2 : goal.returns-then-not-matches_at-2
-unfolding starts_with
-returns-then-not-matches_at-2 c =
-    let prefix-of = c.args.prefix.now in
-    let name_of = c.args.name.now in
-    let some : length prefix-of ≡ 0 → ⊥ = c.if-n-eq0.false in
-    let begins : starts_with prefix-of name_of ≡ true = sym c.matches_at.ensures ∙ c.if-not-matches_at.false in
-    let rest_of = part (length prefix-of) (length name_of - length prefix-of) name_of in
-    let rest-is : rest_of ≡ without_prefix prefix-of name_of = part-rest (length prefix-of) name_of in
-    let ends : ends_with suffix (without_prefix prefix-of name_of) ≡ true = ap (ends_with suffix) (sym rest-is) ∙ sym c.ends_with.ensures
-    ∙ c.if-not-ends_with.false in
-    let stem-of = take (length rest_of - 4) rest_of in
-    let stem-is : stem-of ≡ without_suffix prefix-of name_of = ap (λ (l : List ℕ). take (length l - 4) l) rest-is in
-    sym (parse-refuses-33 prefix-of name_of some begins ends
-    (ap (starts_with dot) (sym stem-is) ∙ sym c.matches_at-2.ensures ∙ c.if-not-matches_at-2.true))
-
-pub slice_bounds-ten-count : goal.slice_bounds-ten-count
-unfolding starts_with
-slice_bounds-ten-count c =
-    let prefix-of = c.args.prefix.now in
-    let name_of = c.args.name.now in
-    let rest_of = part (length prefix-of) (length name_of - length prefix-of) name_of in
-    let stem-of = take (length rest_of - 4) rest_of in
-    let has-dot : starts_with dot stem-of ≡ true = sym c.matches_at-2.ensures ∙ c.if-not-matches_at-2.false in
-    let dot-fits : 1 ≤ length stem-of = starts-long stem-of dot has-dot in
-    dot-fits
-
-pub slice_bounds-ten-start : goal.slice_bounds-ten-start
-unfolding starts_with
-slice_bounds-ten-start c =
-    let prefix-of = c.args.prefix.now in
-    let name_of = c.args.name.now in
-    let rest_of = part (length prefix-of) (length name_of - length prefix-of) name_of in
-    let stem-of = take (length rest_of - 4) rest_of in
-    let has-dot : starts_with dot stem-of ≡ true = sym c.matches_at-2.ensures ∙ c.if-not-matches_at-2.false in
-    let dot-fits : 1 ≤ length stem-of = starts-long stem-of dot has-dot in
-    let h = dot-fits in search rules
+    let some : length c.args.prefix.now ≡ 0 → ⊥ = search rules in
+    let begins =
+    passed _ _ c.strip_prefix.result PrefixMissing c.in_ok-without_prefix.without_prefix c.strip_prefix.ensures.cases (sym c.ok_or.ensures.value ∙ c.in_ok-without_prefix.was) in
+    let ends =
+    passed _ _ c.strip_suffix.result SuffixMissing c.in_ok-without_suffix.without_suffix c.strip_suffix.ensures.cases (sym c.ok_or-2.ensures.value ∙ c.in_ok-without_suffix.was) in
+    let none =
+    missing _ _ c.strip_prefix-2.result DotMissing c.in_err-ten.field-0.0 c.strip_prefix-2.ensures.cases (sym c.ok_or-3.ensures.value ∙ c.in_err-ten.was) in
+    let answer : c.from_residual-in_err-ten.result ≡ Err c.in_err-ten.field-0.0 = search rules in
+    let ended : ends_with suffix (without_prefix prefix-of name_of) ≡ true = ap (ends_with suffix) (sym begins.1) ∙ ends.0 in
+    let stem-is : c.in_ok-without_suffix.without_suffix.now ≡ without_suffix prefix-of name_of =
+    ends.1 ∙ ap (before suffix) begins.1 in
+    ap outcome (answer ∙ ap Err none.1) ∙ sym (parse-refuses-33 prefix-of name_of some begins.0 ended (ap (starts_with dot) (sym stem-is) ∙ none.0))
 
 pub returns-then-ten-ne10 : goal.returns-then-ten-ne10
-unfolding starts_with
+unfolding starts_with ends_with
 returns-then-ten-ne10 c =
     let prefix-of = c.args.prefix.now in
     let name_of = c.args.name.now in
-    let some : length prefix-of ≡ 0 → ⊥ = c.if-n-eq0.false in
-    let begins : starts_with prefix-of name_of ≡ true = sym c.matches_at.ensures ∙ c.if-not-matches_at.false in
-    let rest_of = part (length prefix-of) (length name_of - length prefix-of) name_of in
-    let rest-is : rest_of ≡ without_prefix prefix-of name_of = part-rest (length prefix-of) name_of in
-    let ends : ends_with suffix (without_prefix prefix-of name_of) ≡ true = ap (ends_with suffix) (sym rest-is) ∙ sym c.ends_with.ensures
-    ∙ c.if-not-ends_with.false in
-    let stem-of = take (length rest_of - 4) rest_of in
-    let stem-is : stem-of ≡ without_suffix prefix-of name_of = ap (λ (l : List ℕ). take (length l - 4) l) rest-is in
-    let has-dot : starts_with dot stem-of ≡ true = sym c.matches_at-2.ensures ∙ c.if-not-matches_at-2.false in
-    let dotted : starts_with dot (without_suffix prefix-of name_of) ≡ true = ap (starts_with dot) (sym stem-is) ∙ has-dot in
-    let ten-is : part 1 (length stem-of - 1) stem-of ≡ id_bytes prefix-of name_of = part-rest 1 stem-of ∙ ap (drop 1) stem-is in
-    sym (parse-refuses-34 prefix-of name_of some begins ends dotted (λ h. c.if-ten-ne10.true (ap length ten-is ∙ h)))
+    let some : length c.args.prefix.now ≡ 0 → ⊥ = search rules in
+    let begins =
+    passed _ _ c.strip_prefix.result PrefixMissing c.in_ok-without_prefix.without_prefix c.strip_prefix.ensures.cases (sym c.ok_or.ensures.value ∙ c.in_ok-without_prefix.was) in
+    let ends =
+    passed _ _ c.strip_suffix.result SuffixMissing c.in_ok-without_suffix.without_suffix c.strip_suffix.ensures.cases (sym c.ok_or-2.ensures.value ∙ c.in_ok-without_suffix.was) in
+    let dotted =
+    passed _ _ c.strip_prefix-2.result DotMissing c.in_ok-ten.ten c.strip_prefix-2.ensures.cases (sym c.ok_or-3.ensures.value ∙ c.in_ok-ten.was) in
+    let ended : ends_with suffix (without_prefix prefix-of name_of) ≡ true = ap (ends_with suffix) (sym begins.1) ∙ ends.0 in
+    let stem-is : c.in_ok-without_suffix.without_suffix.now ≡ without_suffix prefix-of name_of =
+    ends.1 ∙ ap (before suffix) begins.1 in
+    let stemmed : starts_with dot (without_suffix prefix-of name_of) ≡ true = ap (starts_with dot) (sym stem-is) ∙ dotted.0 in
+    let ten-is : c.in_ok-ten.ten.now ≡ id_bytes prefix-of name_of = dotted.1 ∙ ap (behind dot) stem-is in
+    sym (parse-refuses-34 prefix-of name_of some begins.0 ended stemmed (λ h. c.if-ten-ne10.true (ap length ten-is ∙ h)))
 
 pub returns : goal.returns
-unfolding starts_with
+unfolding starts_with ends_with
 returns c =
     let prefix-of = c.args.prefix.now in
     let name_of = c.args.name.now in
-    let some : length prefix-of ≡ 0 → ⊥ = c.if-n-eq0.false in
-    let begins : starts_with prefix-of name_of ≡ true = sym c.matches_at.ensures ∙ c.if-not-matches_at.false in
-    let rest_of = part (length prefix-of) (length name_of - length prefix-of) name_of in
-    let rest-is : rest_of ≡ without_prefix prefix-of name_of = part-rest (length prefix-of) name_of in
-    let ends : ends_with suffix (without_prefix prefix-of name_of) ≡ true = ap (ends_with suffix) (sym rest-is) ∙ sym c.ends_with.ensures
-    ∙ c.if-not-ends_with.false in
-    let stem-of = take (length rest_of - 4) rest_of in
-    let stem-is : stem-of ≡ without_suffix prefix-of name_of = ap (λ (l : List ℕ). take (length l - 4) l) rest-is in
-    let has-dot : starts_with dot stem-of ≡ true = sym c.matches_at-2.ensures ∙ c.if-not-matches_at-2.false in
-    let dotted : starts_with dot (without_suffix prefix-of name_of) ≡ true = ap (starts_with dot) (sym stem-is) ∙ has-dot in
-    let ten-is : part 1 (length stem-of - 1) stem-of ≡ id_bytes prefix-of name_of = part-rest 1 stem-of ∙ ap (drop 1) stem-is in
+    let some : length c.args.prefix.now ≡ 0 → ⊥ = search rules in
+    let begins =
+    passed _ _ c.strip_prefix.result PrefixMissing c.in_ok-without_prefix.without_prefix c.strip_prefix.ensures.cases (sym c.ok_or.ensures.value ∙ c.in_ok-without_prefix.was) in
+    let ends =
+    passed _ _ c.strip_suffix.result SuffixMissing c.in_ok-without_suffix.without_suffix c.strip_suffix.ensures.cases (sym c.ok_or-2.ensures.value ∙ c.in_ok-without_suffix.was) in
+    let dotted =
+    passed _ _ c.strip_prefix-2.result DotMissing c.in_ok-ten.ten c.strip_prefix-2.ensures.cases (sym c.ok_or-3.ensures.value ∙ c.in_ok-ten.was) in
+    let ended : ends_with suffix (without_prefix prefix-of name_of) ≡ true = ap (ends_with suffix) (sym begins.1) ∙ ends.0 in
+    let stem-is : c.in_ok-without_suffix.without_suffix.now ≡ without_suffix prefix-of name_of =
+    ends.1 ∙ ap (before suffix) begins.1 in
+    let stemmed : starts_with dot (without_suffix prefix-of name_of) ≡ true = ap (starts_with dot) (sym stem-is) ∙ dotted.0 in
+    let ten-is : c.in_ok-ten.ten.now ≡ id_bytes prefix-of name_of = dotted.1 ∙ ap (behind dot) stem-is in
     c.parse_u32.ensures ∙ ap u32_of ten-is
-    ∙ sym (parse-reads prefix-of name_of some begins ends dotted (sym (ap length ten-is) ∙ c.if-ten-ne10.false))
+    ∙ sym (parse-reads prefix-of name_of some begins.0 ended stemmed (sym (ap length ten-is) ∙ c.if-ten-ne10.false))
