@@ -12,10 +12,12 @@ use Rattle.segment_filename.specs.Words.{same, starts_with, ends_with, behind, b
 
 -- a list has the same bytes as itself
 pub same_refl : (l : List ℕ) → same l l ≡ true
+unfolding same
 same_refl l = (bytes_eq-Decides l l).1 refl
 
 -- lists with the same bytes are equal
 pub same_true : (k l : List ℕ) → same k l ≡ true → k ≡ l
+unfolding same
 same_true k l = (bytes_eq-Decides k l).0
 
 module _ (s word : List ℕ) where

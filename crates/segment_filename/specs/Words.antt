@@ -4,7 +4,7 @@ use Rattle.std.specs.Prelude.{Bool, List, ℕ, ◌-◌, length, take, drop, eqb}
 use Rattle.std.specs.Str.{bytes_eq}
 
 -- whether two lists have the same bytes
-abbrev pub same : List ℕ → List ℕ → Bool
+unfoldable pub same : List ℕ → List ℕ → Bool
 same = bytes_eq
 
 -- whether a list has no byte

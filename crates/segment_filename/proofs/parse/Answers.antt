@@ -6,7 +6,7 @@ use Rattle.std.specs.Option.{ok_or}
 use Rattle.refusal.specs.declared.Refusal.{Refusal}
 use Rattle.refusal.specs.declared.Refusal.TheVariants.{PrefixMissing, SuffixMissing, DotMissing}
 use Rattle.refusal.specs.Refusals.{outcome}
-use Rattle.segment_filename.specs.Words.{starts_with, ends_with, behind, before}
+use Rattle.segment_filename.specs.Words.{same, starts_with, ends_with, behind, before}
 use Rattle.segment_filename.specs.Formatting.{dot, suffix}
 use Rattle.segment_filename.specs.Parsing.{without_prefix, without_suffix, id_bytes, u32_of}
 use Rattle.segment_filename.proofs.Parsing.{parse-refuses-30, parse-refuses-31, parse-refuses-32, parse-refuses-33}
@@ -31,7 +31,7 @@ returns-then-is_empty c =
     sym (parse-refuses-30 c.args.prefix.now c.args.name.now none)
 
 pub returns-in_err-without_prefix : goal.returns-in_err-without_prefix
-unfolding starts_with ends_with
+unfolding starts_with ends_with same
 returns-in_err-without_prefix c =
     let prefix-of = c.args.prefix.now in
     let name_of = c.args.name.now in
@@ -42,7 +42,7 @@ returns-in_err-without_prefix c =
     ap outcome (answer ∙ ap Err none.1) ∙ sym (parse-refuses-31 prefix-of name_of some none.0)
 
 pub returns-in_err-without_suffix : goal.returns-in_err-without_suffix
-unfolding starts_with ends_with
+unfolding starts_with ends_with same
 returns-in_err-without_suffix c =
     let prefix-of = c.args.prefix.now in
     let name_of = c.args.name.now in
@@ -55,7 +55,7 @@ returns-in_err-without_suffix c =
     ap outcome (answer ∙ ap Err none.1) ∙ sym (parse-refuses-32 prefix-of name_of some begins.0 (ap (ends_with suffix) (sym begins.1) ∙ none.0))
 
 pub returns-in_err-ten : goal.returns-in_err-ten
-unfolding starts_with ends_with
+unfolding starts_with ends_with same
 returns-in_err-ten c =
     let prefix-of = c.args.prefix.now in
     let name_of = c.args.name.now in
@@ -73,7 +73,7 @@ returns-in_err-ten c =
     ap outcome (answer ∙ ap Err none.1) ∙ sym (parse-refuses-33 prefix-of name_of some begins.0 ended (ap (starts_with dot) (sym stem-is) ∙ none.0))
 
 pub returns-then-ten-ne10 : goal.returns-then-ten-ne10
-unfolding starts_with ends_with
+unfolding starts_with ends_with same
 returns-then-ten-ne10 c =
     let prefix-of = c.args.prefix.now in
     let name_of = c.args.name.now in
@@ -92,7 +92,7 @@ returns-then-ten-ne10 c =
     sym (parse-refuses-34 prefix-of name_of some begins.0 ended stemmed (λ h. c.if-ten-ne10.true (ap length ten-is ∙ h)))
 
 pub returns : goal.returns
-unfolding starts_with ends_with
+unfolding starts_with ends_with same
 returns c =
     let prefix-of = c.args.prefix.now in
     let name_of = c.args.name.now in
