@@ -8,17 +8,18 @@ use native.Mathlib.Omega.{arith}
 use lib.ListN.{length, get_or, drop}
 use lib.Seq.{get_or-take, get_or-drop}
 use borrow.Author.Tests.{le-ltb}
+use Rattle.std.specs.Prelude.{Result, Ok, Err}
 use Rattle.lists.specs.Splice.{part}
 use Rattle.lists.proofs.Bools.{zero-is-not-one}
 use Rattle.lists.proofs.Cases.{by-test}
 use Rattle.little_endian.specs.LittleEndian.{le_at}
 use Rattle.little_endian.proofs.LittleEndian.{le-agree}
-use Rattle.record.specs.declared.HeaderAnswer.{HeaderAnswer}
+use Rattle.record.specs.declared.RecordHeader.{RecordHeader}
 use Rattle.record.specs.Record.{header_of, header_at}
+use Rattle.refusal.specs.declared.Refusal.{Refusal}
+use Rattle.refusal.specs.declared.Refusal.TheVariants.{ShortHeader}
 use Rattle.walk.specs.declared.Scan.{Scan}
-use Rattle.walk.specs.declared.Step.{Step}
-use Rattle.walk.specs.declared.Step.TheVariants.{Next, Fault}
-use Rattle.walk.specs.declared.Walked.{Walked}
+use Rattle.walk.specs.declared.Fault.{Fault}
 use Rattle.walk.specs.Judging.{judge_of, more_of}
 use Rattle.walk.specs.Walk.{walk_by}
 use Rattle.walk.specs.Headers.{EachHeader, image-over, header-short, header-here, WalkDepends}
@@ -60,54 +61,54 @@ module _ (img img' : List ℕ) (pos : ℕ) (same : part pos 12 img ≡ part pos 
 -- ---- what holds of each header walked
 
 -- what follows from it holds so
-pub each_map : (P Q : ℕ → Type 0) (to : (p : ℕ) → P p → Q p) (size : ℕ) (read : ℕ → HeaderAnswer) (s e : ℕ) (w : Scan)
+pub each_map : (P Q : ℕ → Type 0) (to : (p : ℕ) → P p → Q p) (size : ℕ) (read : ℕ → Result RecordHeader Refusal) (s e : ℕ) (w : Scan)
     → EachHeader P size read s e w → EachHeader Q size read s e w
 each_map P Q to size read s e w (image-over h) = image-over h
 each_map P Q to size read s e w (header-short h) = header-short h
 each_map P Q to size read s e w (header-here p k) = header-here (to _ p) (λ d m. each_map P Q to size read s e d (k d m))
 
 -- what holds of every place holds of each header walked: each walk comes to its end
-pub each-everywhere : (P : ℕ → Type 0) → ((p : ℕ) → P p) → (size : ℕ) (read : ℕ → HeaderAnswer) (s e : ℕ) (w : Scan)
+pub each-everywhere : (P : ℕ → Type 0) → ((p : ℕ) → P p) → (size : ℕ) (read : ℕ → Result RecordHeader Refusal) (s e : ℕ) (w : Scan)
     → EachHeader P size read s e w
 each-everywhere P all size read s e w = walk-ind size read s e (λ d a. EachHeader P size read s e d) next fault (λ d h. image-over h) w
   where
-    next : (w d : Scan) (a : Walked) → more_of w size ≡ true → step_at size read s e w ≡ Next d → EachHeader P size read s e d
+    next : (w d : Scan) (a : Result Scan Fault) → more_of w size ≡ true → step_at size read s e w ≡ Ok d → EachHeader P size read s e d
         → EachHeader P size read s e w
     next w d a h m p = header-here (all _) on
       where
-        on : (g : Scan) → step_at size read s e w ≡ Next g → EachHeader P size read s e g
+        on : (g : Scan) → step_at size read s e w ≡ Ok g → EachHeader P size read s e g
         on g q = let same : d ≡ g = cc in rw (← same) p
 
-    fault : (w : Scan) (k : ℕ) → more_of w size ≡ true → step_at size read s e w ≡ Fault k → EachHeader P size read s e w
+    fault : (w : Scan) (k : Refusal) → more_of w size ≡ true → step_at size read s e w ≡ Err k → EachHeader P size read s e w
     fault w k h m = header-here (all _) on
       where
-        on : (g : Scan) → step_at size read s e w ≡ Next g → EachHeader P size read s e g
+        on : (g : Scan) → step_at size read s e w ≡ Ok g → EachHeader P size read s e g
         on g q = zero-is-not-one (cc)
 
 -- ---- two walks at once
 
-module _ (size : ℕ) (read read' : ℕ → HeaderAnswer) (s e : ℕ) where
-  abbrev At : Scan → Step
+module _ (size : ℕ) (read read' : ℕ → Result RecordHeader Refusal) (s e : ℕ) where
+  abbrev At : Scan → Result Scan Refusal
   At = step_at size read s e
 
-  abbrev At' : Scan → Step
+  abbrev At' : Scan → Result Scan Refusal
   At' = step_at size read' s e
 
   -- induction along two walks whose headers agree: each step is the same in both
   module _ (Q : Scan → Type 0) (end : (w : Scan) → more_of w size ≡ false → Q w)
-      (fault : (w : Scan) (m : ℕ) → more_of w size ≡ true → At w ≡ Fault m → At' w ≡ Fault m → Q w)
-      (next : (w d : Scan) → more_of w size ≡ true → At w ≡ Next d → At' w ≡ Next d → Q d → Q w) where
-    turn : (w : Scan) → At w ≡ At' w → ((d : Scan) → At w ≡ Next d → Q d) → Q w
+      (fault : (w : Scan) (m : Refusal) → more_of w size ≡ true → At w ≡ Err m → At' w ≡ Err m → Q w)
+      (next : (w d : Scan) → more_of w size ≡ true → At w ≡ Ok d → At' w ≡ Ok d → Q d → Q w) where
+    turn : (w : Scan) → At w ≡ At' w → ((d : Scan) → At w ≡ Ok d → Q d) → Q w
     turn w same on = by-test (more_of w size) (λ h. go h (At w) refl) (λ h. end w h)
       where
-        go : more_of w size ≡ true → (o : Step) → At w ≡ o → Q w
-        go h (Next d) m = next w d h m (sym same ∙ m) (on d m)
-        go h (Fault k) m = fault w k h m (sym same ∙ m)
+        go : more_of w size ≡ true → (o : Result Scan Refusal) → At w ≡ o → Q w
+        go h (Ok d) m = next w d h m (sym same ∙ m) (on d m)
+        go h (Err k) m = fault w k h m (sym same ∙ m)
 
     pub along : (w : Scan) → EachHeader (λ p. read p ≡ read' p) size read s e w → Q w
     along w (image-over h) = end w h
     along w (header-short h) =
-        let short : At w ≡ Fault 17 = judge-short size s e w (read w.pos) h in
+        let short : At w ≡ Err ShortHeader = judge-short size s e w (read w.pos) h in
         turn w (short ∙ sym (judge-short size s e w (read' w.pos) h)) (λ d m. zero-is-not-one (cc))
     along w (header-here q k) = turn w (ap (judge_of size s e w) q) (λ d m. along d (k d m))
 

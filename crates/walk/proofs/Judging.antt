@@ -5,21 +5,23 @@ use mathlib.Core.Bool.{Bool, true, false, ◌&&◌, not, and-false}
 use Prim.Native.Nat.{ℕ, zero, suc, ◌+◌, ◌-◌, ◌≤◌, ◌<◌}
 use native.Mathlib.Numerals.{add-one, sub-one}
 use native.Mathlib.Omega.{arith}
-use lib.Dec.{ltb, leb, eqb, eqb-suc-suc, lit<}
+use lib.Dec.{ltb, leb, eqb, eqb-suc-suc, lit<, lit≤}
 use borrow.Author.Tests.{eq-eqb, ne_eqb, ltb-true, ltb-false, lt-ltb, le-ltb, leb-true, le-leb, lt-leb, eqb-true, eqb-false}
+use Rattle.std.specs.Prelude.{List, length, Result, Ok, Err}
 use Rattle.lists.specs.Choice.{pick}
+use Rattle.lists.specs.Outcome.{refused, done}
 use Rattle.lists.proofs.Bools.{clash, zero-is-not-one, and_both, both_ways}
 use Rattle.lists.proofs.Cases.{by-test}
 use Rattle.page.proofs.Page.{pad-ge}
+use Rattle.little_endian.specs.LittleEndian.{le_at}
 use Rattle.record.specs.declared.RecordHeader.{RecordHeader}
-use Rattle.record.specs.declared.HeaderAnswer.{HeaderAnswer}
-use Rattle.record.specs.declared.HeaderAnswer.TheVariants.{Header, Short, TooLong}
-use Rattle.record.specs.Record.{max_payload, header_number}
-use Rattle.record.proofs.Record.{header}
+use Rattle.record.specs.Record.{max_payload, header_of, header_at}
+use Rattle.record.proofs.Record.{header, header_at-outcome}
+use Rattle.refusal.specs.declared.Refusal.{Refusal}
+use Rattle.refusal.specs.declared.Refusal.TheVariants.{ImageGap, ShortHeader, HeaderTooLong, OutOfSequence, ShortPayload}
+use Rattle.refusal.specs.Refusals.{number, outcome}
 use Rattle.walk.specs.declared.Scan.{Scan}
 use Rattle.walk.specs.declared.Placed.{Placed}
-use Rattle.walk.specs.declared.RecordAnswer.TheVariants.{Record, Refused}
-use Rattle.walk.specs.declared.Step.TheVariants.{Next, Fault}
 use Rattle.walk.specs.Judging.{max_image, header_fits, placed_of, read_at, record_at, follows_of, live_of, cut_of, passed_of}
 use Rattle.walk.specs.Judging.{judge_record, judge_of, advanced_of, goes_on, more_of, gap_of, opened_of, next_image}
 
@@ -59,6 +61,15 @@ more-stopped w n g = ap (λ (b : Bool). b && ltb w.pos n) g
 pub gap-stopped : (w : Scan) (n : ℕ) → goes_on w ≡ false → gap_of w n ≡ false
 unfolding gap_of
 gap-stopped w n g = ap (λ (b : Bool). b && (w.gap && ltb 0 n)) g
+
+-- a gap by its tests one behind the other
+pub gap-by : (w : Scan) (n : ℕ) (v : Bool) → v ≡ goes_on w && w.gap → v && ltb 0 n ≡ gap_of w n
+unfolding gap_of
+gap-by w n v e = rw e (go (goes_on w))
+  where
+    go : (g : Bool) → (g && w.gap) && ltb 0 n ≡ g && (w.gap && ltb 0 n)
+    go true = refl
+    go false = refl
 
 -- no gap where the image opened last has a size above 0
 pub gap-calm : (w : Scan) (n : ℕ) → w.gap ≡ false → gap_of w n ≡ false
@@ -184,66 +195,64 @@ not-cut size s e id end h = go (live_of s e id)
 -- ---- the ways of a judged header
 
 -- 17: twelve bytes do not fit
-pub record-short : (size pos : ℕ) (h : HeaderAnswer) → header_fits size pos ≡ false → Refused 17 ≡ record_at size pos h
+pub record-short : (size pos : ℕ) (h : Result RecordHeader Refusal) → header_fits size pos ≡ false → Err ShortHeader ≡ record_at size pos h
 unfolding record_at
 record-short size pos h f = simp f
 
 module _ (size pos : ℕ) (fits : header_fits size pos ≡ true) where
-  -- what the refusal's branch of a `let .. else` is told, that the answer is no header, gives 17 or 18
-  pub record-refused : (h : HeaderAnswer) → ((k : RecordHeader) → h ≡ Header k → ⊥) → Refused (header_number h) ≡ record_at size pos h
+  -- a header that can't be read: why it can't
+  pub record-refused : (h : Result RecordHeader Refusal) (r : Refusal) → h ≡ Err r → Err r ≡ record_at size pos h
   unfolding record_at
-  record-refused (Header k) o = absurd (o k refl)
-  record-refused Short o = simp fits
-  record-refused TooLong o = simp fits
+  record-refused h r is = rw is (simp fits)
 
-  module _ (k : RecordHeader) (h : HeaderAnswer) (is : h ≡ Header k) where
+  module _ (k : RecordHeader) (h : Result RecordHeader Refusal) (is : h ≡ Ok k) where
     -- 18: its length is too large
-    pub record-long : max_payload < k.length → Refused 18 ≡ record_at size pos h
+    pub record-long : max_payload < k.length → Err HeaderTooLong ≡ record_at size pos h
     unfolding record_at
     record-long l = rw is (simp (fits, lt-ltb max_payload k.length l))
 
     -- else the record
-    pub record-good : k.length ≤ max_payload → Record (placed_of pos k.length k.id) ≡ record_at size pos h
+    pub record-good : k.length ≤ max_payload → Ok (placed_of pos k.length k.id) ≡ record_at size pos h
     unfolding record_at
     record-good l = rw is (simp (fits, le-ltb max_payload k.length l))
 
 module _ (size s e : ℕ) (w : Scan) (p : Placed) where
   -- 19: the id does not follow
-  pub judge-order : follows_of w.last p.id ≡ false → Fault 19 ≡ judge_record size s e w (Record p)
+  pub judge-order : follows_of w.last p.id ≡ false → Err OutOfSequence ≡ judge_record size s e w (Ok p)
   unfolding judge_record
   judge-order f = simp f
 
   -- 20: a live record that is cut short
-  pub judge-cut : follows_of w.last p.id ≡ true → cut_of size s e p.id p.end ≡ true → Fault 20 ≡ judge_record size s e w (Record p)
+  pub judge-cut : follows_of w.last p.id ≡ true → cut_of size s e p.id p.end ≡ true → Err ShortPayload ≡ judge_record size s e w (Ok p)
   unfolding judge_record
   judge-cut f g = simp (f, g)
 
   -- a good record
   pub judge-good : follows_of w.last p.id ≡ true → cut_of size s e p.id p.end ≡ false
-      → Next (passed_of w s e p) ≡ judge_record size s e w (Record p)
+      → Ok (passed_of w s e p) ≡ judge_record size s e w (Ok p)
   unfolding judge_record
   judge-good f g = simp (f, g)
 
 -- a good record at the state's place: the state after it
 pub judge-next : (size s e : ℕ) (w : Scan) (len id : ℕ) → Inside size w.pos → len ≤ max_payload → follows_of w.last id ≡ true
-    → cut_of size s e id (w.pos + 12 + len) ≡ false → judge_of size s e w (Header (header len id)) ≡ Next (advanced_of w s e len id)
+    → cut_of size s e id (w.pos + 12 + len) ≡ false → judge_of size s e w (Ok (header len id)) ≡ Ok (advanced_of w s e len id)
 unfolding judge_of advanced_of
 judge-next size s e w len id h small f g =
     ap (judge_record size s e w) (sym (record-good size w.pos (inside-fits size w.pos h) (header len id) _ refl small))
     ∙ sym (judge-good size s e w (placed_of w.pos len id) f g)
 
 -- a header that does not fit: 17, whatever its answer
-pub judge-short : (size s e : ℕ) (w : Scan) (h : HeaderAnswer) → header_fits size w.pos ≡ false → judge_of size s e w h ≡ Fault 17
+pub judge-short : (size s e : ℕ) (w : Scan) (h : Result RecordHeader Refusal) → header_fits size w.pos ≡ false → judge_of size s e w h ≡ Err ShortHeader
 unfolding judge_of judge_record
 judge-short size s e w h f = ap (judge_record size s e w) (sym (record-short size w.pos h f))
 
 -- ---- what a step that goes on tells
 
 -- the header that was read, that it fits, that its id follows, that a live payload is whole, and the state after it
-pub record Went (size s e : ℕ) (w : Scan) (h : HeaderAnswer) (d : Scan) : Type 0 where
+pub record Went (size s e : ℕ) (w : Scan) (h : Result RecordHeader Refusal) (d : Scan) : Type 0 where
   pub len : ℕ
   pub id : ℕ
-  pub read : h ≡ Header (header len id)
+  pub read : h ≡ Ok (header len id)
   pub inside : Inside size w.pos
   pub small : len ≤ max_payload
   pub follows : follows_of w.last id ≡ true
@@ -251,16 +260,15 @@ pub record Went (size s e : ℕ) (w : Scan) (h : HeaderAnswer) (d : Scan) : Type
   pub to : d ≡ advanced_of w s e len id
 
 -- a step that goes on has read a header, and passed every test
-pub went : (size s e : ℕ) (w : Scan) (h : HeaderAnswer) (d : Scan) → judge_of size s e w h ≡ Next d → Went size s e w h d
+pub went : (size s e : ℕ) (w : Scan) (h : Result RecordHeader Refusal) (d : Scan) → judge_of size s e w h ≡ Ok d → Went size s e w h d
 unfolding judge_of record_at judge_record advanced_of
 went size s e w h d t = by (header_fits size w.pos) h refl t
   where
-    by : (a : Bool) (h : HeaderAnswer) → header_fits size w.pos ≡ a
-        → judge_record size s e w (pick a (read_at w.pos h) (Refused 17)) ≡ Next d → Went size s e w h d
+    by : (a : Bool) (h : Result RecordHeader Refusal) → header_fits size w.pos ≡ a
+        → judge_record size s e w (pick a (read_at w.pos h) (Err ShortHeader)) ≡ Ok d → Went size s e w h d
     by false h ea t = zero-is-not-one (cc)
-    by true Short ea t = zero-is-not-one (cc)
-    by true TooLong ea t = zero-is-not-one (cc)
-    by true (Header k) ea t =
+    by true (Err r) ea t = zero-is-not-one (cc)
+    by true (Ok k) ea t =
         go (ltb max_payload k.length) (follows_of w.last k.id) (cut_of size s e k.id (w.pos + 12 + k.length)) refl refl refl t
       where
         to : Scan
@@ -268,13 +276,13 @@ went size s e w h d t = by (header_fits size w.pos) h refl t
 
         go : (b f g : Bool) → ltb max_payload k.length ≡ b → follows_of w.last k.id ≡ f
             → cut_of size s e k.id (w.pos + 12 + k.length) ≡ g
-            → judge_record size s e w (pick b (Refused 18) (Record (placed_of w.pos k.length k.id))) ≡ Next d
-            → Went size s e w (Header k) d
+            → judge_record size s e w (pick b (Err HeaderTooLong) (Ok (placed_of w.pos k.length k.id))) ≡ Ok d
+            → Went size s e w (Ok k) d
         go true f g eb ef eg t = zero-is-not-one (cc)
         go false false g eb ef eg t = zero-is-not-one (cc (sym (judge-order size s e w (placed_of w.pos k.length k.id) ef)))
         go false true true eb ef eg t = zero-is-not-one (cc (sym (judge-cut size s e w (placed_of w.pos k.length k.id) ef eg)))
         go false true false eb ef eg t =
-            let is : Next to ≡ Next d = judge-good size s e w (placed_of w.pos k.length k.id) ef eg ∙ t in
+            let is : Ok to ≡ Ok d = judge-good size s e w (placed_of w.pos k.length k.id) ef eg ∙ t in
             record {
               len = k.length;
               id = k.id;
@@ -287,7 +295,7 @@ went size s e w h d t = by (header_fits size w.pos) h refl t
             }
 
 -- a step that goes on moves forward
-pub step-moves : (size s e : ℕ) (w : Scan) (h : HeaderAnswer) (d : Scan) → judge_of size s e w h ≡ Next d → w.pos < d.pos
+pub step-moves : (size s e : ℕ) (w : Scan) (h : Result RecordHeader Refusal) (d : Scan) → judge_of size s e w h ≡ Ok d → w.pos < d.pos
 unfolding advanced_of
 step-moves size s e w h d m =
     let g = went size s e w h d m in
@@ -298,45 +306,64 @@ pub record StepFault (m : ℕ) : Type 0 where
   pub low : 17 ≤ m
   pub high : m ≤ 20
 
--- a fault of a step is 17, 18, 19 or 20
-pub step-number : (size s e : ℕ) (w : Scan) (h : HeaderAnswer) (m : ℕ) → judge_of size s e w h ≡ Fault m → StepFault m
-unfolding judge_of record_at judge_record
-step-number size s e w h m t = by (header_fits size w.pos) h t
-  where
-    is : (n : ℕ) → n ≡ m → 17 ≤ n → n ≤ 20 → StepFault m
-    is n q l h = record { low = omega arith; high = omega arith }
+-- headers that can't be read are refused with such a number
+abbrev pub ReadFaults : (ℕ → Result RecordHeader Refusal) → Type 0
+ReadFaults read = (p : ℕ) (r : Refusal) → read p ≡ Err r → StepFault (number r)
 
-    by : (a : Bool) (h : HeaderAnswer) → judge_record size s e w (pick a (read_at w.pos h) (Refused 17)) ≡ Fault m → StepFault m
-    by false h t = is 17 (cc) (omega arith) (omega arith)
-    by true Short t = is 17 (cc) (omega arith) (omega arith)
-    by true TooLong t = is 18 (cc) (omega arith) (omega arith)
-    by true (Header k) t =
+-- an image's headers are
+pub header-faults : (img : List ℕ) → ReadFaults (header_at img)
+unfolding header_of
+header-faults img p r t =
+    go (ltb (length img - p) 12) (ltb max_payload (le_at 4 img p)) (sym (ap outcome t) ∙ header_at-outcome img p)
+  where
+    go : (a b : Bool)
+        → refused (number r)
+        ≡ pick a (refused 17) (pick b (refused 18) (done (header (le_at 4 img p) (le_at 8 img (p + 4)))))
+        → StepFault (number r)
+    go true b q = let is : number r ≡ 17 = cc in record { low = omega arith; high = omega arith }
+    go false true q = let is : number r ≡ 18 = cc in record { low = omega arith; high = omega arith }
+    go false false q = zero-is-not-one (cc)
+
+-- a fault of a step is 17, 18, 19 or 20
+pub step-number : (size s e : ℕ) (w : Scan) (h : Result RecordHeader Refusal)
+    → ((r : Refusal) → h ≡ Err r → StepFault (number r)) → (m : Refusal) → judge_of size s e w h ≡ Err m → StepFault (number m)
+unfolding judge_of record_at judge_record
+step-number size s e w h reads m t = by (header_fits size w.pos) h reads t
+  where
+    is : (r : Refusal) → r ≡ m → StepFault (number r) → StepFault (number m)
+    is r q f = rw q at f
+
+    by : (a : Bool) (h : Result RecordHeader Refusal) → ((r : Refusal) → h ≡ Err r → StepFault (number r))
+        → judge_record size s e w (pick a (read_at w.pos h) (Err ShortHeader)) ≡ Err m → StepFault (number m)
+    by false h f t = is ShortHeader (cc) (record { low = lit≤ tt; high = lit≤ tt })
+    by true (Err r) f t = is r (cc) (f r refl)
+    by true (Ok k) f t =
         go (ltb max_payload k.length) (follows_of w.last k.id) (cut_of size s e k.id (w.pos + 12 + k.length)) refl refl t
       where
         p : Placed
         p = placed_of w.pos k.length k.id
 
         go : (b f g : Bool) → follows_of w.last k.id ≡ f → cut_of size s e k.id (w.pos + 12 + k.length) ≡ g
-            → judge_record size s e w (pick b (Refused 18) (Record (placed_of w.pos k.length k.id))) ≡ Fault m → StepFault m
-        go true f g ef eg t = is 18 (cc) (omega arith) (omega arith)
-        go false false g ef eg t = is 19 (cc (judge-order size s e w p ef)) (omega arith) (omega arith)
-        go false true true ef eg t = is 20 (cc (judge-cut size s e w p ef eg)) (omega arith) (omega arith)
+            → judge_record size s e w (pick b (Err HeaderTooLong) (Ok (placed_of w.pos k.length k.id))) ≡ Err m → StepFault (number m)
+        go true f g ef eg t = is HeaderTooLong (cc) (record { low = lit≤ tt; high = lit≤ tt })
+        go false false g ef eg t = is OutOfSequence (cc (judge-order size s e w p ef)) (record { low = lit≤ tt; high = lit≤ tt })
+        go false true true ef eg t = is ShortPayload (cc (judge-cut size s e w p ef eg)) (record { low = lit≤ tt; high = lit≤ tt })
         go false true false ef eg t = zero-is-not-one (cc (judge-good size s e w p ef eg))
 
 -- the only fault before an image's first header is 16
-pub next-image-number : (w : Scan) (n m : ℕ) → next_image w n ≡ Fault m → m ≡ 16
+pub next-image-fault : (w : Scan) (n : ℕ) (m : Refusal) → next_image w n ≡ Err m → m ≡ ImageGap
 unfolding next_image
-next-image-number w n m t = go (gap_of w n) t
+next-image-fault w n m t = go (gap_of w n) t
   where
-    go : (b : Bool) → pick b (Fault 16) (Next (opened_of w n)) ≡ Fault m → m ≡ 16
+    go : (b : Bool) → pick b (Err ImageGap) (Ok (opened_of w n)) ≡ Err m → m ≡ ImageGap
     go true t = cc
     go false t = zero-is-not-one (cc)
 
 -- and it is told only where the walk goes on
-pub next-image-going : (w : Scan) (n m : ℕ) → next_image w n ≡ Fault m → goes_on w ≡ true
+pub next-image-going : (w : Scan) (n : ℕ) (m : Refusal) → next_image w n ≡ Err m → goes_on w ≡ true
 unfolding next_image gap_of
 next-image-going w n m t = go (goes_on w) (w.gap && ltb 0 n) t
   where
-    go : (a b : Bool) → pick (a && b) (Fault 16) (Next (opened_of w n)) ≡ Fault m → a ≡ true
+    go : (a b : Bool) → pick (a && b) (Err ImageGap) (Ok (opened_of w n)) ≡ Err m → a ≡ true
     go true b t = refl
     go false b t = zero-is-not-one (cc)

@@ -7,6 +7,7 @@ use native.Mathlib.Nat.{add_assoc, add-zero}
 use native.Mathlib.Omega.{arith}
 use lib.ListN.{length, length-append}
 use lib.Dec.{lit<}
+use Rattle.std.specs.Prelude.{Ok}
 use Rattle.lists.proofs.Bools.{both_ways}
 use Rattle.lists.proofs.Cases.{by-test}
 use Rattle.page.specs.Page.{padded_end}
@@ -14,7 +15,6 @@ use Rattle.page.proofs.Page.{pad-after, pad-multiple}
 use Rattle.record.specs.Record.{max_payload, record_room, record_bytes, header_at}
 use Rattle.record.proofs.Record.{record-length, room-ge, record-header}
 use Rattle.walk.specs.declared.Scan.{Scan}
-use Rattle.walk.specs.declared.Step.TheVariants.{Next}
 use Rattle.walk.specs.Judging.{max_image, follows_of, advanced_of, judge_of, record_step, goes_on, more_of}
 use Rattle.walk.specs.Walk.{walk_of}
 use Rattle.walk.specs.Records.{records_from, over, Plain}
@@ -43,7 +43,7 @@ module _ (pre : List ℕ) (id : ℕ) (p post : List ℕ) (w : Scan) (at : w.pos 
 
   -- its step goes on, where its id follows and its bytes lie in the first 2^31
   pub step-record : (s e : ℕ) → length p ≤ max_payload → id < 2 ^ 64 → follows_of w.last id ≡ true
-      → length pre + record_room (length p) ≤ max_image → record_step img s e w ≡ Next (advanced_of w s e (length p) id)
+      → length pre + record_room (length p) ≤ max_image → record_step img s e w ≡ Ok (advanced_of w s e (length p) id)
   step-record s e small fits f room =
       ap (judge_of (length img) s e w) (record-header id p pre post w.pos at small fits)
       ∙ judge-next (length img) s e w (length p) id

@@ -7,7 +7,7 @@ use Rattle.walk.proofs.next_image.Reads as next-image
 use Rattle.walk.proofs.goes_on.Reads as goes_on
 use Rattle.walk.proofs.more.Reads as more
 use Rattle.walk.proofs.record_at.Reads as record-at
-use Rattle.walk.proofs.is_live.Reads as is_live
+use Rattle.walk.proofs.Range.holds.Reads as holds
 use Rattle.walk.proofs.judge.Reads as judge
 use Rattle.walk.proofs.record_step.Reads as record-step
 use Rattle.walk.proofs.walk_image.Reads as walk-image
@@ -30,8 +30,8 @@ more-unique κs a r r' e e' = unique
 pub record-at-unique : UniqueAnswer record-at.Learnt
 record-at-unique κs a r r' e e' = unique
 
-pub is-live-unique : UniqueAnswer is_live.Learnt
-is-live-unique κs a r r' e e' = unique
+pub holds-unique : UniqueAnswer holds.Learnt
+holds-unique κs a r r' e e' = unique
 
 pub judge-unique : UniqueAnswer judge.Learnt
 judge-unique κs a r r' e e' = unique

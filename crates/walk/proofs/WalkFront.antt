@@ -9,14 +9,14 @@ use lib.ListN.{length, take, drop, length-append, length-drop}
 use lib.Seq.{take-append-le, drop-append-le}
 use lib.Dec.{leb}
 use borrow.Author.Tests.{leb-true}
+use Rattle.std.specs.Prelude.{Result, Ok, Err}
 use Rattle.lists.specs.Choice.{pick}
 use Rattle.lists.specs.Until.{again, stop}
 use Rattle.lists.proofs.Bools.{zero-is-not-one, and_both}
 use Rattle.lists.proofs.Until.{until-keeps}
 use Rattle.record.specs.Record.{header_at}
+use Rattle.refusal.specs.declared.Refusal.{Refusal}
 use Rattle.walk.specs.declared.Scan.{Scan}
-use Rattle.walk.specs.declared.Step.{Step}
-use Rattle.walk.specs.declared.Step.TheVariants.{Next, Fault}
 use Rattle.walk.specs.Judging.{judge_of, more_of}
 use Rattle.walk.specs.Walk.{walk_of, front_route, front_turn, walk_front}
 use Rattle.walk.proofs.Judging.{more-inside, step-moves}
@@ -39,16 +39,16 @@ module _ (xs ys : List ℕ) (s e : ℕ) where
 
   -- a turn goes on by a step of the whole
   goes : (w d : Scan) → front_turn xs size s e w ≡ again d
-      → (more_of w size ≡ true) × (judge_of size s e w (header_at whole w.pos) ≡ Next d)
+      → (more_of w size ≡ true) × (judge_of size s e w (header_at whole w.pos) ≡ Ok d)
   unfolding front_turn
   goes w d t = go (more_of w size && leb (w.pos + 12) (length xs)) (judge_of size s e w (header_at xs w.pos)) refl refl t
     where
-      go : (b : Bool) (o : Step) → more_of w size && leb (w.pos + 12) (length xs) ≡ b → judge_of size s e w (header_at xs w.pos) ≡ o
+      go : (b : Bool) (o : Result Scan Refusal) → more_of w size && leb (w.pos + 12) (length xs) ≡ b → judge_of size s e w (header_at xs w.pos) ≡ o
           → pick b (front_route w o) (stop w) ≡ again d
-          → (more_of w size ≡ true) × (judge_of size s e w (header_at whole w.pos) ≡ Next d)
+          → (more_of w size ≡ true) × (judge_of size s e w (header_at whole w.pos) ≡ Ok d)
       go false o h m t = zero-is-not-one (cc)
-      go true (Fault n) h m t = zero-is-not-one (cc)
-      go true (Next x) h m t =
+      go true (Err n) h m t = zero-is-not-one (cc)
+      go true (Ok x) h m t =
           let both = and_both (more_of w size) (leb (w.pos + 12) (length xs)) h in
           let same : x ≡ d = cc in
           let read = header-front xs ys w.pos (leb-true (w.pos + 12) (length xs) both.1) in
@@ -59,10 +59,10 @@ module _ (xs ys : List ℕ) (s e : ℕ) where
   unfolding front_turn
   stops w a t = go (more_of w size && leb (w.pos + 12) (length xs)) (judge_of size s e w (header_at xs w.pos)) t
     where
-      go : (b : Bool) (o : Step) → pick b (front_route w o) (stop w) ≡ stop a → w ≡ a
+      go : (b : Bool) (o : Result Scan Refusal) → pick b (front_route w o) (stop w) ≡ stop a → w ≡ a
       go false o t = cc
-      go true (Fault n) t = cc
-      go true (Next x) t = zero-is-not-one (cc)
+      go true (Err n) t = cc
+      go true (Ok x) t = zero-is-not-one (cc)
 
   falls : (w d : Scan) → front_turn xs size s e w ≡ again d → size - d.pos < size - w.pos
   falls w d t =

@@ -1,18 +1,15 @@
 -- One record of the walk, in document 01's words: "12 header bytes must fit; length is checked, then sequence; a record with
 -- s <= id <= e must have its payload inside the size, another is skipped; the next position is the padded end"; and where the walk stops,
 -- in those of document 02's Ask 1 (`goes_on`). Assumes nothing.
-use Rattle.std.specs.Prelude.{List, [], ◌∷◌, Bool, true, false, ◌&&◌, ◌||◌, not, ℕ, ◌+◌, length, ltb, leb, eqb}
+use Rattle.std.specs.Prelude.{List, [], ◌∷◌, Bool, true, false, ◌&&◌, ◌||◌, not, ℕ, ◌+◌, length, ltb, leb, eqb, Result, Ok, Err}
 use Rattle.lists.specs.Choice.{pick, ◌⇒◌, first}
 use Rattle.page.specs.Page.{padded_end}
-use Rattle.record.specs.declared.HeaderAnswer.{HeaderAnswer}
-use Rattle.record.specs.declared.HeaderAnswer.TheVariants.{Header, Short, TooLong}
-use Rattle.record.specs.Record.{max_payload, header_at, header_number}
+use Rattle.record.specs.declared.RecordHeader.{RecordHeader}
+use Rattle.record.specs.Record.{max_payload, header_at}
+use Rattle.refusal.specs.declared.Refusal.{Refusal}
+use Rattle.refusal.specs.declared.Refusal.TheVariants.{ImageGap, ShortHeader, HeaderTooLong, OutOfSequence, ShortPayload}
 use Rattle.walk.specs.declared.Scan.{Scan}
 use Rattle.walk.specs.declared.Placed.{Placed}
-use Rattle.walk.specs.declared.RecordAnswer.{RecordAnswer}
-use Rattle.walk.specs.declared.RecordAnswer.TheVariants.{Record, Refused}
-use Rattle.walk.specs.declared.Step.{Step}
-use Rattle.walk.specs.declared.Step.TheVariants.{Next, Fault}
 
 -- ---- the record at a place
 
@@ -29,14 +26,13 @@ abbrev pub placed_of : (pos len id : ℕ) → Placed
 placed_of pos len id = record { id = id; body = pos + 12; len = len; end = pos + 12 + len; next = padded_end 4096 (pos + 12 + len) }
 
 -- what a header's answer comes to where it fits: "length is checked"
-abbrev pub read_at : ℕ → HeaderAnswer → RecordAnswer
-read_at pos (Header h) = pick (ltb max_payload h.length) (Refused 18) (Record (placed_of pos h.length h.id))
-read_at pos Short = Refused (header_number Short)
-read_at pos TooLong = Refused (header_number TooLong)
+abbrev pub read_at : ℕ → Result RecordHeader Refusal → Result Placed Refusal
+read_at pos (Ok h) = pick (ltb max_payload h.length) (Err HeaderTooLong) (Ok (placed_of pos h.length h.id))
+read_at pos (Err r) = Err r
 
 -- 17 where it does not fit, whatever the answer; else 17 or 18 from the answer, or the record
-unfoldable pub record_at : (size pos : ℕ) → HeaderAnswer → RecordAnswer
-record_at size pos h = pick (header_fits size pos) (read_at pos h) (Refused 17)
+unfoldable pub record_at : (size pos : ℕ) → Result RecordHeader Refusal → Result Placed Refusal
+record_at size pos h = pick (header_fits size pos) (read_at pos h) (Err ShortHeader)
 
 -- ---- the step
 
@@ -70,17 +66,18 @@ passed_of w s e p = record {
 }
 
 -- 17 and 18; then 19, 20, else the state after the record
-unfoldable pub judge_record : (size s e : ℕ) → Scan → RecordAnswer → Step
-judge_record size s e w (Refused n) = Fault n
-judge_record size s e w (Record p) =
-    first ((not (follows_of w.last p.id) ⇒ Fault 19) ∷ (cut_of size s e p.id p.end ⇒ Fault 20) ∷ []) (Next (passed_of w s e p))
+unfoldable pub judge_record : (size s e : ℕ) → Scan → Result Placed Refusal → Result Scan Refusal
+judge_record size s e w (Err r) = Err r
+judge_record size s e w (Ok p) =
+    first ((not (follows_of w.last p.id) ⇒ Err OutOfSequence) ∷ (cut_of size s e p.id p.end ⇒ Err ShortPayload) ∷ [])
+    (Ok (passed_of w s e p))
 
 -- a header's answer at the state's place, judged; the image has `size` bytes
-unfoldable pub judge_of : (size s e : ℕ) → Scan → HeaderAnswer → Step
+unfoldable pub judge_of : (size s e : ℕ) → Scan → Result RecordHeader Refusal → Result Scan Refusal
 judge_of size s e w h = judge_record size s e w (record_at size w.pos h)
 
 -- the record at the state's place in an image
-abbrev pub record_step : List ℕ → (s e : ℕ) → Scan → Step
+abbrev pub record_step : List ℕ → (s e : ℕ) → Scan → Result Scan Refusal
 record_step img s e w = judge_of (length img) s e w (header_at img w.pos)
 
 -- the state after a good record of len payload bytes at the state's place
@@ -136,5 +133,5 @@ opened_of w n = record {
 }
 
 -- one more image, of n bytes: "16 before an image's first header", else the state at its front
-unfoldable pub next_image : Scan → ℕ → Step
-next_image w n = pick (gap_of w n) (Fault 16) (Next (opened_of w n))
+unfoldable pub next_image : Scan → ℕ → Result Scan Refusal
+next_image w n = pick (gap_of w n) (Err ImageGap) (Ok (opened_of w n))

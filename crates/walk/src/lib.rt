@@ -7,12 +7,29 @@ ghost use Rattle.std.specs.Prelude.{◌≡◌};
 ghost use Rattle.walk.specs.Judging.{record_at, live_of, judge_of, record_step, start_of, opened_of, next_image, goes_on, more_of};
 ghost use Rattle.walk.specs.Walk.{walk_of};
 
-use record::HeaderAnswer;
+use record::RecordHeader;
+use refusal::Refusal;
 
 mod parts;
 
-// What the walk carries from record to record, and from image to image.
+// The records that are wanted: from s to e.
 #[derive(Clone, Copy)]
+pub struct Range {
+    pub s: u64,
+    pub e: u64,
+}
+
+impl Range {
+    // Whether a record is live.
+    pub fn holds(self, id: u64) -> bool
+        ensures { result ≡ live_of self.s self.e id }
+    {
+        self.s <= id && id <= self.e
+    }
+}
+
+// What the walk carries from record to record, and from image to image.
+#[derive(Clone, Copy, Default)]
 pub struct Scan {
     // the next record's place in its image
     pub pos: u64,
@@ -47,68 +64,42 @@ pub struct Placed {
     pub next: u64,
 }
 
-// What stands at a place of an image: a record, or 17 or 18.
+// Where the walk of an image is refused: why, and the state at which the fault stands.
 #[derive(Clone, Copy)]
-pub enum RecordAnswer {
-    Record(Placed),
-    Refused(u32),
-}
-
-// One step of the walk: the state after it, or a fault's number.
-#[derive(Clone, Copy)]
-pub enum Step {
-    Next(Scan),
-    Fault(u32),
-}
-
-// The walk of an image: the state at its end or behind e's record; or the first fault's number, and the state at which it stands.
-#[derive(Clone, Copy)]
-pub enum Walked {
-    Ended(Scan),
-    Faulted(u32, Scan),
+pub struct Fault {
+    pub refusal: Refusal,
+    pub scan: Scan,
 }
 
 // Before the first image.
 pub fn start() -> Scan
     ensures { result ≡ start_of }
 {
-    Scan {
-        pos: 0,
-        last: 0,
-        min: 0,
-        max: 0,
-        newest_at: 0,
-        body: 0,
-        len: 0,
-        found_s: false,
-        found_e: false,
-        start_of_e: 0,
-        end_of_e: 0,
-        gap: false,
-    }
+    Scan::default()
 }
 
 // The state at the front of an image of `size` bytes: the sequence goes on over image borders.
 pub fn opened(state: Scan, size: u64) -> Scan
     ensures { result ≡ opened_of state size }
 {
-    let mut next = state;
-    next.pos = 0;
-    next.min = 0;
-    next.max = 0;
-    next.newest_at = 0;
-    next.gap = size == 0;
-    next
+    Scan {
+        pos: 0,
+        min: 0,
+        max: 0,
+        newest_at: 0,
+        gap: size == 0,
+        ..state
+    }
 }
 
 // One more image, of `size` bytes: 16, or the state at its front.
-pub fn next_image(state: Scan, size: u64) -> Step
+pub fn next_image(state: Scan, size: u64) -> Result<Scan, Refusal>
     ensures { result ≡ next_image state size }
 {
     if parts::gapped(state, size) {
-        return Step::Fault(16);
+        return Err(Refusal::ImageGap);
     }
-    Step::Next(opened(state, size))
+    Ok(opened(state, size))
 }
 
 // Whether the walk goes on: it stops once e's record is read.
@@ -122,63 +113,59 @@ pub fn goes_on(state: Scan) -> bool
 pub fn more(state: Scan, size: u64) -> bool
     ensures { result ≡ more_of state size }
 {
-    goes_on(state) & (state.pos < size)
+    goes_on(state) && state.pos < size
 }
 
 // The record whose header was read at `pos` of an image of `size` bytes: 17 where twelve bytes do not fit, 18 where it is too long.
-pub fn record_at(size: u64, pos: u64, answer: HeaderAnswer) -> RecordAnswer
+pub fn record_at(
+    size: u64,
+    pos: u64,
+    answer: Result<RecordHeader, Refusal>,
+) -> Result<Placed, Refusal>
     ensures { result ≡ record_at size pos answer }
 {
     if !parts::header_fits(size, pos) {
-        return RecordAnswer::Refused(17);
+        return Err(Refusal::ShortHeader);
     }
-    let HeaderAnswer::Header(header) = answer else {
-        return RecordAnswer::Refused(record::header_number(answer));
-    };
+    let header = answer?;
     if record::MAX_RECORD_PAYLOAD_SIZE < header.length {
-        return RecordAnswer::Refused(18);
+        return Err(Refusal::HeaderTooLong);
     }
-    RecordAnswer::Record(parts::placed(pos, header))
-}
-
-// Whether a record is live.
-pub fn is_live(s: u64, e: u64, id: u64) -> bool
-    ensures { result ≡ live_of s e id }
-{
-    if s <= id { id <= e } else { false }
+    Ok(parts::placed(pos, header))
 }
 
 // The header's answer at the state's place of an image of `size` bytes: 17 to 20, or the state after the record.
-pub fn judge(size: u64, s: u64, e: u64, state: Scan, answer: HeaderAnswer) -> Step
-    ensures { result ≡ judge_of size s e state answer }
+pub fn judge(
+    size: u64,
+    range: Range,
+    state: Scan,
+    answer: Result<RecordHeader, Refusal>,
+) -> Result<Scan, Refusal>
+    ensures { result ≡ judge_of size range.s range.e state answer }
 {
-    let found = record_at(size, state.pos, answer);
-    match found {
-        RecordAnswer::Record(record) => parts::judge_record(size, s, e, state, record),
-        RecordAnswer::Refused(number) => Step::Fault(number),
-    }
+    let found = record_at(size, state.pos, answer)?;
+    parts::judge_record(size, range, state, found)
 }
 
 // The record at the state's place in an image.
-pub fn record_step(img: &[u8], s: u64, e: u64, state: Scan) -> Step
-    ensures { result ≡ record_step img.now s e state }
+pub fn record_step(img: &[u8], range: Range, state: Scan) -> Result<Scan, Refusal>
+    ensures { result ≡ record_step img.now range.s range.e state }
 {
     let answer = record::read_header(img, state.pos as usize);
-    judge(img.len() as u64, s, e, state, answer)
+    judge(img.len() as u64, range, state, answer)
 }
 
 // The records of an image from a state on: up to its end, e's record or the first fault. From the front: `next_image` first.
-pub fn walk_image(img: &[u8], s: u64, e: u64, state: Scan) -> Walked
-    ensures { result ≡ walk_of img.now s e state }
+pub fn walk_image(img: &[u8], range: Range, state: Scan) -> Result<Scan, Fault>
+    ensures { result ≡ walk_of img.now range.s range.e state }
 {
     let size = img.len() as u64;
     let mut scan = state;
-    while more(scan, size) {
-        let step = record_step(img, s, e, scan);
-        match step {
-            Step::Next(next) => scan = next,
-            Step::Fault(number) => return Walked::Faulted(number, scan),
+    'records: while more(scan, size) {
+        match record_step(img, range, scan) {
+            Ok(next) => scan = next,
+            Err(refusal) => return Err(Fault { refusal, scan }),
         }
     }
-    Walked::Ended(scan)
+    Ok(scan)
 }

@@ -1,7 +1,7 @@
 -- `walk::next_image` meets its contract: 16, or the state at the image's front.
 -- Assumes nothing.
 use mathlib.Core.Path.{sym, ap, ◌∙◌}
-use Rattle.walk.specs.declared.Step.TheVariants.{Next}
+use Rattle.std.specs.Prelude.{Ok}
 use Rattle.walk.specs.Judging.{next_image}
 use Rattle.walk.proofs.next_image.Goals as goal
 
@@ -13,4 +13,4 @@ returns-then-gapped c =
 pub returns : goal.returns
 unfolding next_image
 returns c =
-    ap Next c.opened.ensures ∙ simp (sym c.gapped.ensures, c.if-gapped.false)
+    ap Ok c.opened.ensures ∙ simp (sym c.gapped.ensures, c.if-gapped.false)

@@ -6,10 +6,10 @@ use lib.ListN.{length}
 use Rattle.walk.specs.Walk.{walk_of}
 use Rattle.walk.proofs.walk_image.Given as goal
 
-abbrev pub invariant-loop-step : goal.invariant-loop-step
-invariant-loop-step l =
-    walk_of l.img l.s l.e l.initial.scan ≡ walk_of l.img l.s l.e l.scan
+abbrev pub invariant-records : goal.invariant-records
+invariant-records l =
+    walk_of l.img l.range.s l.range.e l.initial.scan ≡ walk_of l.img l.range.s l.range.e l.scan
 
-abbrev pub decreases-loop-step : goal.decreases-loop-step
-decreases-loop-step l =
+abbrev pub decreases-records : goal.decreases-records
+decreases-records l =
     length l.img - l.scan.pos

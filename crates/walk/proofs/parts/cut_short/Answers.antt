@@ -4,12 +4,12 @@ use mathlib.Core.Path.{sym}
 use Rattle.walk.specs.Judging.{cut_of}
 use Rattle.walk.proofs.parts.cut_short.Goals as goal
 
-pub returns-then-is_live : goal.returns-then-is_live
+pub returns-then-holds : goal.returns-then-holds
 unfolding cut_of
-returns-then-is_live c =
-    simp (sym c.is_live.ensures, c.if-is_live.true)
+returns-then-holds c =
+    simp (sym c.holds.ensures, c.if-holds.true)
 
-pub returns-else-is_live : goal.returns-else-is_live
+pub returns-else-holds : goal.returns-else-holds
 unfolding cut_of
-returns-else-is_live c =
-    simp (sym c.is_live.ensures, c.if-is_live.false)
+returns-else-holds c =
+    simp (sym c.holds.ensures, c.if-holds.false)

@@ -2,7 +2,7 @@
 -- Assumes nothing.
 use mathlib.Core.Path.{◌≡◌, sym, ap, ◌∙◌}
 use mathlib.Core.Bool.{true}
-use Rattle.walk.specs.declared.Step.TheVariants.{Next}
+use Rattle.std.specs.Prelude.{Ok}
 use Rattle.walk.specs.Judging.{follows_of}
 use Rattle.walk.proofs.Judging.{judge-order, judge-cut, judge-good}
 use Rattle.walk.proofs.parts.judge_record.Goals as goal
@@ -19,4 +19,4 @@ returns-then-cut_short c =
 pub returns : goal.returns
 returns c =
     let follows-at : let a = c.args in follows_of a.state.last a.found.id ≡ true = sym c.follows.ensures ∙ c.if-not-follows.false in
-    ap Next c.pass.ensures ∙ judge-good _ _ _ _ _ follows-at (sym c.cut_short.ensures ∙ c.if-cut_short.false)
+    ap Ok c.pass.ensures ∙ judge-good _ _ _ _ _ follows-at (sym c.cut_short.ensures ∙ c.if-cut_short.false)
