@@ -19,7 +19,7 @@ use Rattle.walk.specs.Walk.{faulted, route, walk_turn, walk_by}
 use Rattle.walk.proofs.Judging.{StepFault, ReadFaults, step-moves, step-number, more-going, more-inside}
 
 -- a fault is known by its refusal and its state
-fault-is : {f g : Fault} → ◌≡◌ {A = Result Scan Fault} (Err f) (Err g) → f ≡ g
+pub fault-is : {f g : Fault} → ◌≡◌ {A = Result Scan Fault} (Err f) (Err g) → f ≡ g
 fault-is q = cc
 
 module _ (size : ℕ) (read : ℕ → Result RecordHeader Refusal) (s e : ℕ) where
