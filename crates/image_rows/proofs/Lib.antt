@@ -1,6 +1,7 @@
 pub mod ImageRows
 pub mod RowsListed
-pub mod ArrangeWays
 pub mod FitTurns
-pub mod SortTurns
+pub mod Apart
+pub mod Sorted
+pub mod ArrangeWays
 pub mod Unique
