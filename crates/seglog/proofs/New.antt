@@ -17,7 +17,7 @@ use Rattle.seglog.specs.New.{roomy_of, new_of, Logged, logged}
 use Rattle.seglog.proofs.Fit.{roomy-is, is-fitting}
 
 -- no refusal has the number 0
-number-some : (r : Refusal) → number r ≡ 0 → ⊥
+pub number-some : (r : Refusal) → number r ≡ 0 → ⊥
 number-some r e = absurd (omega (arith, e, ap number (sym (number-back r) ∙ ap refusal_of e)))
 
 -- an answer and a log are two answers' only where the answers are one

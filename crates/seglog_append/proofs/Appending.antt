@@ -20,7 +20,7 @@ use Rattle.seglog.proofs.Fit.{fitting-is}
 use Rattle.seglog_append.specs.declared.Place.{Place}
 use Rattle.seglog_append.specs.Deciding.{target_of, before_of, place_of, decide_log}
 use Rattle.seglog_append.specs.Appending.{grown_of, start_after, with_record, record_into, Left, left_of, append_of, append_log}
-use Rattle.seglog_append.specs.Appending.{refused_append, append_answer, append_area, advanced_by, advanced_of, grown_answer, GrownPre}
+use Rattle.seglog_append.specs.Appending.{refused_append, taken, append_answer, append_area, advanced_by, advanced_of, grown_answer, GrownPre}
 use Rattle.seglog_append.specs.Promised.{AppendAdvances}
 use Rattle.seglog_append.proofs.Deciding.{Allowed, Accepted, few-listed, spot, view-outcomes, decide-outcomes, decided}
 
@@ -73,7 +73,7 @@ module _ (l : Log) (bytes n : ℕ) (long : length l.segs ≡ 64) where
       }
 
   log_is : (size : ℕ) → Accepted l bytes n → size ≡ (target_of v).size + record_room n
-      → grown_answer l (place_of v n) size ≡ record { refusal = 0; id = l.end + 1; log = log_of (with_record v n) }
+      → grown_answer l (place_of v n) size ≡ record { id = l.end + 1; log = log_of (with_record v n) }
   log_is size ok grown =
       let t : Segment = target_of v in
       let there = spot l bytes n long ok in
@@ -86,18 +86,17 @@ module _ (l : Log) (bytes n : ℕ) (long : length l.segs ≡ 64) where
       ap (λ (z : ℕ). pick (eqb z 0) (l.end + 1) l.start)
       (sym (listed-length l.count l.segs long (few-listed l bytes long ok.fits))) in
       λ j. record {
-        refusal = 0;
         id = l.end + 1;
         log = record { k = l.k; c = l.c; m = l.m; start = start j; end = l.end + 1; count = count j; segs = segs j };
       }
 
   -- the answer of a place that was decided, where the target has grown by the record's room
   pub grown-answer : (s : Place) (size : ℕ) → decide_log l bytes n ≡ done s → size ≡ s.target.size + s.room
-      → grown_answer l s size ≡ advanced_of l bytes n
+      → taken (grown_answer l s size) ≡ advanced_of l bytes n
   grown-answer s size e grown =
       let k = decided l bytes n s e in
-      ap (λ (x : Place). grown_answer l x size) k.1
-      ∙ log_is size k.0 (grown ∙ ap (λ (x : Place). x.target.size + x.room) k.1)
+      ap (λ (x : Place). taken (grown_answer l x size)) k.1
+      ∙ ap taken (log_is size k.0 (grown ∙ ap (λ (x : Place). x.target.size + x.room) k.1))
       ∙ sym (ap (advanced_by l n) e)
 
   -- a refusal
@@ -167,7 +166,7 @@ module _ (l : Log) (area p : List ℕ) (long : length l.segs ≡ 64) where
         (wrote_at k.0 size after)
 
     -- the answer, as the code makes it
-    pub put-answer : WroteAt s size after → grown_answer l s size ≡ append_answer l (append_log l area p)
+    pub put-answer : WroteAt s size after → taken (grown_answer l s size) ≡ append_answer l (append_log l area p)
     put-answer wrote =
         grown-answer l (length area) (length p) long s size e (wrote-decided wrote).0 ∙ sym (append-advances l area p)
 

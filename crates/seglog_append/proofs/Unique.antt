@@ -1,28 +1,31 @@
--- Two answers, and two areas afterwards, that the contract of `append` allows are equal. So are two decisions: two that come to one place
--- or number are one. Assumes nothing.
+-- Two answers, and two areas afterwards, that the contract of `append` allows are equal. So are two decisions, and two answers foretold.
+-- Assumes nothing.
 use Rattle.std.proofs.Common.{◌≡◌, sym, ap, ◌∙◌}
+use Rattle.std.specs.Prelude.{Result, Ok, Err}
 use Rattle.lists.specs.Unique.{UniqueAnswer, UniqueBoth}
-use Rattle.lists.proofs.Outcome.{refused-is-not-done, refused-injective, done-injective}
-use Rattle.lists.proofs.Unique.{unique, unique-both}
-use Rattle.seglog_append.specs.declared.Decision.{Decision}
-use Rattle.seglog_append.specs.declared.Decision.TheVariants.{Refused, Goes}
-use Rattle.seglog_append.specs.Deciding.{decision_of}
+use Rattle.refusal.specs.declared.Refusal.{Refusal}
+use Rattle.refusal.proofs.Refusals.{numbers-differ, outcomes-differ}
+use Rattle.seglog.specs.declared.Log.{Log}
+use Rattle.seglog.proofs.New.{number-some}
+use Rattle.seglog_append.specs.declared.Appended.{Appended}
+use Rattle.seglog_append.specs.declared.Place.{Place}
+use Rattle.seglog_append.specs.Appending.{AppendAnswer, appended}
 use Rattle.seglog_append.proofs.advance.Reads as advance
 use Rattle.seglog_append.proofs.append.Reads as append
 use Rattle.seglog_append.proofs.decide.Reads as decide
 
--- a decision is its number or its place
-pub decision-unique : (r q : Decision) → decision_of r ≡ decision_of q → r ≡ q
-decision-unique (Refused m) (Refused n) e = ap Refused (refused-injective e)
-decision-unique (Refused m) (Goes s) e = refused-is-not-done e
-decision-unique (Goes s) (Refused n) e = refused-is-not-done (sym e)
-decision-unique (Goes s) (Goes t) e = ap Goes (done-injective e)
+-- an answer and a log are two answers' only where the answers are one
+pub appended-unique : (l : Log) (r q : Result Appended Refusal) → appended l r ≡ appended l q → r ≡ q
+appended-unique l (Ok a) (Ok b) e = ap Ok (ap (λ (x : AppendAnswer). record { id = x.id; log = x.log }) e)
+appended-unique l (Ok a) (Err b) e = absurd (number-some b (sym (ap (λ (x : AppendAnswer). x.refusal) e)))
+appended-unique l (Err a) (Ok b) e = absurd (number-some a (ap (λ (x : AppendAnswer). x.refusal) e))
+appended-unique l (Err a) (Err b) e = ap Err (numbers-differ a b (ap (λ (x : AppendAnswer). x.refusal) e))
 
 pub decide-unique : UniqueAnswer decide.Learnt
-decide-unique κs a r r' e e' p q = decision-unique r r' (p ∙ sym q)
+decide-unique κs a r r' e e' p q = outcomes-differ Place r r' (p ∙ sym q)
 
 pub advance-unique : UniqueAnswer advance.Learnt
-advance-unique κs a r r' e e' = unique
+advance-unique κs a r r' e e' p q = appended-unique _ r r' (p ∙ sym q)
 
 pub append-unique : UniqueBoth append.Learnt (λ _ e. e.1.0.now)
-append-unique κs a r r' e e' = unique-both
+append-unique κs a r r' e e' p q = (appended-unique _ r r' (p.0 ∙ sym q.0), p.1 ∙ sym q.1)

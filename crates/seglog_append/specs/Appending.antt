@@ -1,9 +1,11 @@
 -- Append, as document 01 says it: what was decided before any byte is written (Deciding.antt), then the id, the new log, and the record's
 -- bytes in the area. Laws: proofs/Appending.antt. Assumes nothing.
-use Rattle.std.specs.Prelude.{◌≡◌, ℕ, ◌+◌, ◌*◌, ◌<◌, List, [], ◌∷◌, ◌++◌, length, ◌==◌, slice_set}
+use Rattle.std.specs.Prelude.{◌≡◌, ℕ, ◌+◌, ◌*◌, ◌<◌, List, [], ◌∷◌, ◌++◌, length, ◌==◌, slice_set, Result, Ok, Err}
 use Rattle.lists.specs.Choice.{pick}
 use Rattle.lists.specs.Outcome.{Outcome, refused, done, either, kept}
 use Rattle.lists.specs.Splice.{splice}
+use Rattle.refusal.specs.declared.Refusal.{Refusal}
+use Rattle.refusal.specs.Refusals.{number}
 use Rattle.record.specs.Record.{record_room, record_bytes}
 use Rattle.segment.specs.declared.Segment.{Segment}
 use Rattle.segment.specs.Segment.{ended_at}
@@ -54,12 +56,27 @@ append_of a area payload = either refused (λ s. done (left_of a area payload)) 
 unfoldable pub append_log : Log → List ℕ → List ℕ → Outcome Left
 append_log l area payload = either refused (λ s. done (left_of (view_of l) area payload)) (decide_log l (length area) (length payload))
 
+-- a refusal's number with id 0 and the log given, or 0 with the record's id and the new log
+pub record AppendAnswer : Type 0 where
+  pub refusal : ℕ
+  pub id : ℕ
+  pub log : Log
+
 -- beside a refusal's number stand 0 and the log given
-abbrev pub refused_append : Log → ℕ → Appended
+abbrev pub refused_append : Log → ℕ → AppendAnswer
 refused_append l n = record { refusal = n; id = 0; log = l }
 
+-- an accepted record
+abbrev pub taken : Appended → AppendAnswer
+taken a = record { refusal = 0; id = a.id; log = a.log }
+
+-- an answer with its log; l is the log given
+abbrev pub appended : Log → Result Appended Refusal → AppendAnswer
+appended l (Ok a) = taken a
+appended l (Err r) = refused_append l (number r)
+
 -- the answer
-abbrev pub append_answer : Log → Outcome Left → Appended
+abbrev pub append_answer : Log → Outcome Left → AppendAnswer
 append_answer l o = either (refused_append l) (λ w. record { refusal = 0; id = w.id; log = log_of w.view }) o
 
 -- the area afterwards: a refusal changes nothing
@@ -67,11 +84,11 @@ abbrev pub append_area : List ℕ → Outcome Left → List ℕ
 append_area area o = kept area (λ w. w.area) o
 
 -- the answer to an append of n payload bytes, by what was decided
-abbrev pub advanced_by : Log → ℕ → Outcome Place → Appended
+abbrev pub advanced_by : Log → ℕ → Outcome Place → AppendAnswer
 advanced_by l n o = either (refused_append l) (λ s. record { refusal = 0; id = l.end + 1; log = log_of (with_record (view_of l) n) }) o
 
 -- over an area of `bytes` bytes: no byte of area or payload is needed
-abbrev pub advanced_of : Log → (bytes n : ℕ) → Appended
+abbrev pub advanced_of : Log → (bytes n : ℕ) → AppendAnswer
 advanced_of l bytes n = advanced_by l n (decide_log l bytes n)
 
 -- ---- as the code holds the log
@@ -79,7 +96,6 @@ advanced_of l bytes n = advanced_by l n (decide_log l bytes n)
 -- the answer with a record at s, where the target is `size` bytes long then
 abbrev pub grown_answer : Log → Place → ℕ → Appended
 grown_answer l s size = record {
-  refusal = 0;
   id = l.end + 1;
   log = record {
     k = l.k;

@@ -11,8 +11,6 @@ use Rattle.seglog.specs.declared.Log.{Log}
 use Rattle.seglog.specs.View.{View, view_of, head_of, front_of}
 use Rattle.seglog.specs.Fit.{fitting_of}
 use Rattle.seglog_append.specs.declared.Place.{Place}
-use Rattle.seglog_append.specs.declared.Decision.{Decision}
-use Rattle.seglog_append.specs.declared.Decision.TheVariants.{Refused, Goes}
 
 -- the lowest slot from i on that no listed segment has, looking at n slots; the one behind them where there is none
 unfoldable pub free_from : ℕ → ℕ → List Segment → ℕ
@@ -62,8 +60,3 @@ decide_of a n =
 -- 2 first: the log is not well shaped, or the area has not K x C bytes
 unfoldable pub decide_log : Log → (bytes n : ℕ) → Outcome Place
 decide_log l bytes n = first ((not (fitting_of l bytes) ⇒ refused 2) ∷ []) (decide_of (view_of l) n)
-
--- document 01's number of a decision, or the place
-abbrev pub decision_of : Decision → Outcome Place
-decision_of (Refused n) = refused n
-decision_of (Goes s) = done s

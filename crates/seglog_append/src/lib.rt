@@ -4,20 +4,20 @@
 
 ghost use Rattle.std.specs.Prelude.{◌≡◌, ◌+◌, ◌*◌, ◌%◌, ◌^◌, true, length, take, ◌==◌, nat_le};
 ghost use Rattle.lists.specs.Choice.{pick};
-ghost use Rattle.lists.specs.Outcome.{refused, done};
+ghost use Rattle.lists.specs.Outcome.{done};
+ghost use Rattle.refusal.specs.Refusals.{outcome};
 ghost use Rattle.seglog.specs.Fit.{fitting_of};
-ghost use Rattle.seglog_append.specs.Deciding.{free_from, decide_log, decision_of};
-ghost use Rattle.seglog_append.specs.Appending.{GrownPre, grown_answer, advanced_of, append_log, append_answer, append_area};
+ghost use Rattle.seglog_append.specs.Deciding.{free_from, decide_log};
+ghost use Rattle.seglog_append.specs.Appending.{GrownPre, grown_answer, taken, appended, advanced_of, append_log, append_answer, append_area};
 
 use record::{HEADER_SIZE, MAX_RECORD_PAYLOAD_SIZE};
+use refusal::Refusal;
 use seglog::Log;
 use segment::Segment;
 
-// A refusal's number with id 0 and the log given, or 0 with the record's id and the new log.
-#[repr(C)]
+// The id that a record got, and the log that lists it.
 #[derive(Clone, Copy)]
 pub struct Appended {
-    pub refusal: u32,
     pub id: u64,
     pub log: Log,
 }
@@ -31,27 +31,18 @@ pub struct Place {
     pub room: u64,
 }
 
-#[derive(Clone, Copy)]
-pub enum Decision {
-    Refused(u32),
-    Goes(Place),
-}
-
 // The last segment id plus one, wrapping at 32 bits; 0 is the last id where there is no segment.
 fn gen_segment_id(last: u32) -> u32
     ensures { result ≡ (last + 1) % 2 ^ 32 }
 {
-    std::num::wrapping_add_u32(last, 1)
+    last.wrapping_add(1)
 }
 
 // Whether a new segment is wanted: there is none, or the head's size is the soft size or more.
 fn opens(count: usize, soft: u64, size: u64) -> bool
     ensures { result ≡ pick (count == 0) true (nat_le soft size) }
 {
-    if count == 0 {
-        return true;
-    }
-    soft <= size
+    count == 0 || soft <= size
 }
 
 // The lowest slot that no listed segment has, K where there is none: a mark for each slot listed, then the first without one.
@@ -93,50 +84,47 @@ fn new_segment(id: u32, slot: u32, first: u64) -> Segment
 }
 
 // Refusals 2 to 7, or where the next record of the log goes: of n payload bytes, in an area of `bytes` bytes.
-pub fn decide(log: Log, bytes: usize, n: usize) -> Decision
-    ensures { decision_of result ≡ decide_log log bytes n }
+pub fn decide(log: Log, bytes: usize, n: usize) -> Result<Place, Refusal>
+    ensures { outcome result ≡ decide_log log bytes n }
 {
     if !seglog::fits(log, bytes) {
-        return Decision::Refused(2);
+        return Err(Refusal::NotShaped);
     }
     if (MAX_RECORD_PAYLOAD_SIZE as usize) < n {
-        return Decision::Refused(3);
+        return Err(Refusal::PayloadTooLong);
     }
-    if log.end == 18446744073709551615 {
-        return Decision::Refused(4);
+    if log.end == u64::MAX {
+        return Err(Refusal::LastRecordId);
     }
-    let mut at = seglog::last_of(log.count);
+    let mut at = log.count.saturating_sub(1);
     let mut target = log.segs[at];
     if opens(log.count, log.m, target.size) {
         let next = gen_segment_id(target.id);
         if next == 0 {
-            return Decision::Refused(5);
+            return Err(Refusal::LastSegmentId);
         }
         let slot = lowest_free(log);
         if slot as u64 == log.k {
-            return Decision::Refused(6);
+            return Err(Refusal::NoFreeSlot);
         }
         at = log.count;
         target = new_segment(next, slot, log.end + 1);
     }
     let room = page::padded_end((HEADER_SIZE + n) as u32);
     if log.c - target.size < room {
-        return Decision::Refused(7);
+        return Err(Refusal::NoRoom);
     }
-    Decision::Goes(Place { target, at, room })
+    Ok(Place { target, at, room })
 }
 
 // The live start with one record more: a first record sets it.
 fn start_after(count: usize, start: u64, id: u64) -> u64
     ensures { result ≡ pick (count == 0) id start }
 {
-    if count == 0 {
-        return id;
-    }
-    start
+    if count == 0 { id } else { start }
 }
 
-// The answer with a record at its place, behind the target's bytes, where the target is `size` bytes long then. Never inlined, for the
+// The log with a record at its place, behind the target's bytes, where the target is `size` bytes long then. Never inlined, for the
 // stack that the C interface's append takes (tests/abi/stack.c).
 #[inline(never)]
 fn grown(mut log: Log, place: Place, size: u64) -> Appended
@@ -150,42 +138,22 @@ fn grown(mut log: Log, place: Place, size: u64) -> Appended
     log.end = id;
     log.count = at + 1;
     log.segs[at] = segment::ended_at(target, id, target.size, size);
-    Appended {
-        refusal: 0,
-        id,
-        log,
-    }
-}
-
-// A refusal; the log stays.
-fn refuse(log: Log, refusal: u32) -> Appended
-    ensures { result ≡ append_answer log (refused refusal) }
-{
-    Appended {
-        refusal,
-        id: 0,
-        log,
-    }
+    Appended { id, log }
 }
 
 // The answer that an append of n payload bytes gives to the log over an area of `bytes` bytes, with no byte written: what a copy of many
 // records goes by, from log to log, before it writes.
-pub fn advance(log: Log, bytes: usize, n: usize) -> Appended
-    ensures { result ≡ advanced_of log bytes n }
+pub fn advance(log: Log, bytes: usize, n: usize) -> Result<Appended, Refusal>
+    ensures { appended log result ≡ advanced_of log bytes n }
 {
-    match decide(log, bytes, n) {
-        Decision::Refused(number) => refuse(log, number),
-        Decision::Goes(place) => {
-            let target = place.target;
-            grown(log, place, target.size + place.room)
-        }
-    }
+    let place = decide(log, bytes, n)?;
+    Ok(grown(log, place, place.target.size + place.room))
 }
 
 // The record with the next id, written at its place.
 fn put(log: Log, area: &mut [u8], place: Place, payload: &[u8]) -> Appended
     requires { decide_log log (length area.old) (length payload.now) ≡ done place }
-    ensures answer { result ≡ append_answer log (append_log log area.old payload.now) }
+    ensures answer { taken result ≡ append_answer log (append_log log area.old payload.now) }
     ensures bytes { area.new ≡ append_area area.old (append_log log area.old payload.now) }
 {
     let target = place.target;
@@ -202,12 +170,10 @@ fn put(log: Log, area: &mut [u8], place: Place, payload: &[u8]) -> Appended
 }
 
 // The record with the next id: refused by 2 to 7, or written behind the head or into a new segment.
-pub fn append(log: Log, area: &mut [u8], payload: &[u8]) -> Appended
-    ensures answer { result ≡ append_answer log (append_log log area.old payload.now) }
+pub fn append(log: Log, area: &mut [u8], payload: &[u8]) -> Result<Appended, Refusal>
+    ensures answer { appended log result ≡ append_answer log (append_log log area.old payload.now) }
     ensures bytes { area.new ≡ append_area area.old (append_log log area.old payload.now) }
 {
-    match decide(log, area.len(), payload.len()) {
-        Decision::Refused(number) => refuse(log, number),
-        Decision::Goes(place) => put(log, area, place, payload),
-    }
+    let place = decide(log, area.len(), payload.len())?;
+    Ok(put(log, area, place, payload))
 }

@@ -1,16 +1,17 @@
 -- `append` meets its contract: what was decided is answered or done. Assumes nothing.
-use Rattle.std.proofs.Common.{sym, ap, ◌∙◌}
-use Rattle.seglog_append.specs.Deciding.{decision_of}
-use Rattle.seglog_append.specs.Appending.{append_answer, append_area}
+use Rattle.std.proofs.Common.{rules, sym, ap, ◌∙◌}
+use Rattle.refusal.specs.Refusals.{outcome}
+use Rattle.seglog_append.specs.Appending.{append_area}
 use Rattle.seglog_append.proofs.Appending.{append-refused}
 use Rattle.seglog_append.proofs.append.Goals as goal
 
-pub put-requires : goal.put-requires
-put-requires c =
-    sym c.decide.ensures ∙ ap decision_of c.in-Goes.is
-
-pub returns-in-Refused : goal.returns-in-Refused
-returns-in-Refused c =
+pub returns-in_err-place-clause-answer : goal.returns-in_err-place-clause-answer
+returns-in_err-place-clause-answer c =
     let a = c.args in
-    let why = append-refused a.log a.area.now a.payload.now _
-    (sym c.decide.ensures ∙ ap decision_of c.in-Refused.is) in record { answer = c.refuse.ensures ∙ ap (append_answer a.log) (sym why); bytes = ap (append_area a.area.now) (sym why) }
+    let why = append-refused a.log a.area.now a.payload.now _ (sym c.decide.ensures ∙ ap outcome c.in_err-place.was) in
+    rw why (search rules)
+
+pub returns-in_err-place-clause-bytes : goal.returns-in_err-place-clause-bytes
+returns-in_err-place-clause-bytes c =
+    let a = c.args in
+    ap (append_area a.area.now) (sym (append-refused a.log a.area.now a.payload.now _ (sym c.decide.ensures ∙ ap outcome c.in_err-place.was)))

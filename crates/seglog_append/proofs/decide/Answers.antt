@@ -53,8 +53,8 @@ offset_bounds-log-at c =
       small = omega (arith, c.if-n.false);
       more = λ z. omega (arith, c.if-log.false);
     } in
-    let head-below : c.last_of-at.result < 64 = let k = past in
-    last-below (few-listed c.args.log c.args.bytes k.long k.fits) c.last_of-at.ensures in
+    let head-below : c.saturating_sub-at.result < 64 = let k = past in
+    last-below (few-listed c.args.log c.args.bytes k.long k.fits) c.saturating_sub-at.ensures in
     entry-fits head-below
 
 pub bounds-log-at : goal.bounds-log-at
@@ -66,8 +66,8 @@ bounds-log-at c =
       small = omega (arith, c.if-n.false);
       more = λ z. omega (arith, c.if-log.false);
     } in
-    let head-below : c.last_of-at.result < 64 = let k = past in
-    last-below (few-listed c.args.log c.args.bytes k.long k.fits) c.last_of-at.ensures in
+    let head-below : c.saturating_sub-at.result < 64 = let k = past in
+    last-below (few-listed c.args.log c.args.bytes k.long k.fits) c.saturating_sub-at.ensures in
     head-below
 
 pub returns-then-next-eq0 : goal.returns-then-next-eq0
@@ -81,10 +81,10 @@ returns-then-next-eq0 c =
     } in
     let wanted : c.opens.result ≡ opens_of (view_of c.args.log) = let a = c.args in
     let k = past in
-    opens_by a.log a.bytes k.long k.fits _ c.last_of-at.ensures _ c.opens.ensures in
+    opens_by a.log a.bytes k.long k.fits _ c.saturating_sub-at.ensures _ c.opens.ensures in
     let next-id : c.gen_segment_id-next.result ≡ next_id (view_of c.args.log).segs = let a = c.args in
     let k = past in
-    next-by a.log a.bytes k.long k.fits _ c.last_of-at.ensures _ c.gen_segment_id-next.ensures in
+    next-by a.log a.bytes k.long k.fits _ c.saturating_sub-at.ensures _ c.gen_segment_id-next.ensures in
     let a = c.args in
     let k = past in
     sym (append-refuses-5 a.log a.bytes a.n k.fits k.small k.more (sym wanted ∙ c.if-opens.true)
@@ -114,10 +114,10 @@ returns-then-slot-log c =
     } in
     let wanted : c.opens.result ≡ opens_of (view_of c.args.log) = let a = c.args in
     let k = past in
-    opens_by a.log a.bytes k.long k.fits _ c.last_of-at.ensures _ c.opens.ensures in
+    opens_by a.log a.bytes k.long k.fits _ c.saturating_sub-at.ensures _ c.opens.ensures in
     let next-id : c.gen_segment_id-next.result ≡ next_id (view_of c.args.log).segs = let a = c.args in
     let k = past in
-    next-by a.log a.bytes k.long k.fits _ c.last_of-at.ensures _ c.gen_segment_id-next.ensures in
+    next-by a.log a.bytes k.long k.fits _ c.saturating_sub-at.ensures _ c.gen_segment_id-next.ensures in
     let a = c.args in
     sym (append-refuses-6 a.log a.bytes a.n past (sym wanted ∙ c.if-opens.true)
     (λ z. c.if-next-eq0.false (next-id ∙ z))
@@ -134,16 +134,16 @@ overflow_sub-log c =
     } in
     let wanted : c.opens.result ≡ opens_of (view_of c.args.log) = let a = c.args in
     let k = past in
-    opens_by a.log a.bytes k.long k.fits _ c.last_of-at.ensures _ c.opens.ensures in
+    opens_by a.log a.bytes k.long k.fits _ c.saturating_sub-at.ensures _ c.opens.ensures in
     let chosen : Chosen c.args.log c.if-opens.target c.if-opens.at = let a = c.args in
     let k = past in
     elim c.if-opens.branch [
       | then-opens+else-next-eq0+else-slot-log w ↦
           chosen-new a.log a.bytes k.long k.fits c.if-opens.target c.if-opens.at w.gen_segment_id-next.result w.lowest_free-slot.result
-          (sym wanted ∙ w.if-opens.true) (next-by a.log a.bytes k.long k.fits _ c.last_of-at.ensures _ w.gen_segment_id-next.ensures)
+          (sym wanted ∙ w.if-opens.true) (next-by a.log a.bytes k.long k.fits _ c.saturating_sub-at.ensures _ w.gen_segment_id-next.ensures)
           w.if-next-eq0.false w.lowest_free-slot.ensures w.if-slot-log.false w.at-is (w.target-is ∙ w.new_segment-target.ensures)
       | else-opens w ↦
-          chosen-head a.log a.bytes k.long k.fits _ c.last_of-at.ensures
+          chosen-head a.log a.bytes k.long k.fits _ c.saturating_sub-at.ensures
           c.if-opens.target c.if-opens.at (sym wanted ∙ w.if-opens.false) w.at-is w.target-is
     ] in
     chosen.size
@@ -160,16 +160,16 @@ returns-then-log-target c =
     } in
     let wanted : c.opens.result ≡ opens_of (view_of c.args.log) = let a = c.args in
     let k = past in
-    opens_by a.log a.bytes k.long k.fits _ c.last_of-at.ensures _ c.opens.ensures in
+    opens_by a.log a.bytes k.long k.fits _ c.saturating_sub-at.ensures _ c.opens.ensures in
     let chosen : Chosen c.args.log c.if-opens.target c.if-opens.at = let a = c.args in
     let k = past in
     elim c.if-opens.branch [
       | then-opens+else-next-eq0+else-slot-log w ↦
           chosen-new a.log a.bytes k.long k.fits c.if-opens.target c.if-opens.at w.gen_segment_id-next.result w.lowest_free-slot.result
-          (sym wanted ∙ w.if-opens.true) (next-by a.log a.bytes k.long k.fits _ c.last_of-at.ensures _ w.gen_segment_id-next.ensures)
+          (sym wanted ∙ w.if-opens.true) (next-by a.log a.bytes k.long k.fits _ c.saturating_sub-at.ensures _ w.gen_segment_id-next.ensures)
           w.if-next-eq0.false w.lowest_free-slot.ensures w.if-slot-log.false w.at-is (w.target-is ∙ w.new_segment-target.ensures)
       | else-opens w ↦
-          chosen-head a.log a.bytes k.long k.fits _ c.last_of-at.ensures
+          chosen-head a.log a.bytes k.long k.fits _ c.saturating_sub-at.ensures
           c.if-opens.target c.if-opens.at (sym wanted ∙ w.if-opens.false) w.at-is w.target-is
     ] in
     let room_of : c.padded_end-room.result ≡ record_room c.args.n = c.padded_end-room.ensures in
@@ -189,16 +189,16 @@ returns c =
     } in
     let wanted : c.opens.result ≡ opens_of (view_of c.args.log) = let a = c.args in
     let k = past in
-    opens_by a.log a.bytes k.long k.fits _ c.last_of-at.ensures _ c.opens.ensures in
+    opens_by a.log a.bytes k.long k.fits _ c.saturating_sub-at.ensures _ c.opens.ensures in
     let chosen : Chosen c.args.log c.if-opens.target c.if-opens.at = let a = c.args in
     let k = past in
     elim c.if-opens.branch [
       | then-opens+else-next-eq0+else-slot-log w ↦
           chosen-new a.log a.bytes k.long k.fits c.if-opens.target c.if-opens.at w.gen_segment_id-next.result w.lowest_free-slot.result
-          (sym wanted ∙ w.if-opens.true) (next-by a.log a.bytes k.long k.fits _ c.last_of-at.ensures _ w.gen_segment_id-next.ensures)
+          (sym wanted ∙ w.if-opens.true) (next-by a.log a.bytes k.long k.fits _ c.saturating_sub-at.ensures _ w.gen_segment_id-next.ensures)
           w.if-next-eq0.false w.lowest_free-slot.ensures w.if-slot-log.false w.at-is (w.target-is ∙ w.new_segment-target.ensures)
       | else-opens w ↦
-          chosen-head a.log a.bytes k.long k.fits _ c.last_of-at.ensures
+          chosen-head a.log a.bytes k.long k.fits _ c.saturating_sub-at.ensures
           c.if-opens.target c.if-opens.at (sym wanted ∙ w.if-opens.false) w.at-is w.target-is
     ] in
     let room_of : c.padded_end-room.result ≡ record_room c.args.n = c.padded_end-room.ensures in

@@ -9,7 +9,6 @@ use Rattle.seglog_append.proofs.grown.Goals as goal
 -- the answer that the code makes
 abbrev answer : Log → ℕ → ℕ → Segment → Appended
 answer l at start g = record {
-  refusal = 0;
   id = l.end + 1;
   log = record { k = l.k; c = l.c; m = l.m; start = start; end = l.end + 1; count = at + 1; segs = set l.segs at g };
 }
