@@ -8,6 +8,7 @@ use native.Mathlib.Omega.{arith}
 use lib.ListN.{length}
 use lib.Dec.{ltb, eqb, lit<}
 use borrow.Author.Tests.{lt-ltb, le-ltb, ltb-true, ltb-false, eq-eqb, ne_eqb}
+use Rattle.std.specs.Prelude.{Result, Ok, Err}
 use Rattle.lists.specs.Choice.{pick}
 use Rattle.lists.specs.Outcome.{Outcome, refused, done}
 use Rattle.lists.specs.Until.{Turn, again, stop}
@@ -15,12 +16,11 @@ use Rattle.lists.proofs.Bools.{zero-is-not-one}
 use Rattle.lists.proofs.Until.{until-again, until_stop, until-keeps}
 use Rattle.page.specs.Page.{padded_end}
 use Rattle.page.proofs.Page.{pad-ge, pad-least, pad-multiple}
-use Rattle.record.specs.declared.HeaderAnswer.{HeaderAnswer}
-use Rattle.record.specs.declared.HeaderAnswer.TheVariants.{Header, Short, TooLong}
+use Rattle.record.specs.declared.RecordHeader.{RecordHeader}
 use Rattle.record.specs.Record.{max_payload, header_at}
+use Rattle.refusal.specs.declared.Refusal.{Refusal}
+use Rattle.refusal.specs.declared.Refusal.TheVariants.{ShortHeader, HeaderTooLong}
 use Rattle.walk.specs.declared.Placed.{Placed}
-use Rattle.walk.specs.declared.RecordAnswer.{RecordAnswer}
-use Rattle.walk.specs.declared.RecordAnswer.TheVariants.{Record, Refused}
 use Rattle.walk.specs.Judging.{header_fits, placed_of, read_at, record_at}
 use Rattle.segment.specs.declared.Segment.{Segment}
 use Rattle.segment.specs.Chain.{NewestFits}
@@ -37,22 +37,21 @@ pub record AtPlace (at : ℕ) (p : Placed) : Type 0 where
   pub next : p.next ≡ padded_end 4096 p.end
 
 -- what is found at a place stands there
-pub record-placed : (size at : ℕ) (h : HeaderAnswer) (p : Placed) → record_at size at h ≡ Record p → AtPlace at p
+pub record-placed : (size at : ℕ) (h : Result RecordHeader Refusal) (p : Placed) → record_at size at h ≡ Ok p → AtPlace at p
 unfolding record_at
 record-placed size at h p q = go (header_fits size at) h q
   where
     is : (len id : ℕ) → placed_of at len id ≡ p → AtPlace at p
     is len id e = subst (AtPlace at) e (record { low = omega arith; next = refl })
 
-    by : (len id : ℕ) (t : Bool) → pick t (Refused 18) (Record (placed_of at len id)) ≡ Record p → AtPlace at p
+    by : (len id : ℕ) (t : Bool) → pick t (Err HeaderTooLong) (Ok (placed_of at len id)) ≡ Ok p → AtPlace at p
     by len id true q = zero-is-not-one (cc)
     by len id false q = is len id (cc)
 
-    go : (t : Bool) (h : HeaderAnswer) → pick t (read_at at h) (Refused 17) ≡ Record p → AtPlace at p
+    go : (t : Bool) (h : Result RecordHeader Refusal) → pick t (read_at at h) (Err ShortHeader) ≡ Ok p → AtPlace at p
     go false h q = zero-is-not-one (cc)
-    go true Short q = zero-is-not-one (cc)
-    go true TooLong q = zero-is-not-one (cc)
-    go true (Header k) q = by k.length k.id (ltb max_payload k.length) q
+    go true (Err r) q = zero-is-not-one (cc)
+    go true (Ok k) q = by k.length k.id (ltb max_payload k.length) q
 
 -- it is followed by a later place
 pub place-moves : (at : ℕ) (p : Placed) → AtPlace at p → at < p.next
@@ -62,15 +61,15 @@ place-moves at p h = omega (arith, h.low, h.next, pad-ge 4096 p.end (lit< tt))
 
 module _ (img : List ℕ) (n at : ℕ) where
   -- what stands at a place
-  abbrev pub found_at : RecordAnswer
+  abbrev pub found_at : Result Placed Refusal
   found_at = record_at (length img) at (header_at img at)
 
   -- a header that can't be read
-  pub look-unread : (m : ℕ) → found_at ≡ Refused m → Nothing ≡ look_at img n at
+  pub look-unread : (r : Refusal) → found_at ≡ Err r → Nothing ≡ look_at img n at
   unfolding look_at
-  look-unread m read = rw read refl
+  look-unread r read = rw read refl
 
-  module _ (p : Placed) (read : found_at ≡ Record p) where
+  module _ (p : Placed) (read : found_at ≡ Ok p) where
     -- a payload that ends past the image, whether or not it is of the record looked for
     pub look-past : length img < p.end → Nothing ≡ look_at img n at
     unfolding look_at
@@ -112,9 +111,9 @@ look-tells img n at = go (found_at img n at) refl
         record { end = p.end; some = l.low; within = ltb-false (length img) p.end q; is = l.next; page = page }
     by p false false l q = (place-moves at p l, ap (λ (k : ℕ). k % 4096) l.next ∙ pad-multiple 4096 p.end (lit< tt))
 
-    go : (o : RecordAnswer) → found_at img n at ≡ o → Tells img at (look_by (length img) n at o)
-    go (Refused m) r = tt
-    go (Record p) r =
+    go : (o : Result Placed Refusal) → found_at img n at ≡ o → Tells img at (look_by (length img) n at o)
+    go (Err m) r = tt
+    go (Ok p) r =
         by p (ltb (length img) p.end) (eqb p.id n) (record-placed (length img) at (header_at img at) p r) refl
 
 -- what the other two answers come to, by the equation that a branch is told
@@ -173,7 +172,7 @@ module _ (img : List ℕ) (n : ℕ) where
 
 -- ---- a record at a place
 
-module _ (img : List ℕ) (n at : ℕ) (p : Placed) (read : found_at img n at ≡ Record p) (fits : p.end ≤ length img) where
+module _ (img : List ℕ) (n at : ℕ) (p : Placed) (read : found_at img n at ≡ Ok p) (fits : p.end ≤ length img) where
   -- the one looked for: a look finds it, and so does the search
   pub newest-here : p.id ≡ n → cut_at img n at ≡ done (record { at = at; end = p.next })
   newest-here e = sym (ap only (look-here img n at p read fits e))

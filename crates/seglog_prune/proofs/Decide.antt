@@ -9,17 +9,21 @@ use native.Mathlib.Omega.{arith}
 use lib.ListN.{length, take, drop, length-take}
 use lib.Dec.{ltb, leb, eqb}
 use borrow.Author.Tests.{eq-eqb, ne_eqb, lt-ltb, le-ltb, leb-true, eqb-false, ltb-false}
+use Rattle.std.specs.Prelude.{Result, Ok, Err}
 use Rattle.lists.specs.Choice.{pick}
 use Rattle.lists.specs.Outcome.{Outcome, refused, kept}
 use Rattle.lists.proofs.Bools.{zero-is-not-one, and_both}
 use Rattle.lists.proofs.Cases.{by-test, pick-either}
+use Rattle.refusal.specs.declared.Refusal.{Refusal}
+use Rattle.refusal.specs.declared.Refusal.TheVariants.{NotShaped, AboveLiveEnd, BelowLiveStart}
+use Rattle.refusal.specs.Refusals.{number}
 use Rattle.seglog.specs.declared.Log.{Log}
 use Rattle.seglog.specs.View.{View, view_of, empty_of, zeros_of, plain_of}
 use Rattle.seglog.specs.Fit.{shaped_of, fitting_of}
-use Rattle.seglog.specs.New.{accepted}
+use Rattle.seglog.specs.New.{refused_log, accepted}
 use Rattle.seglog.proofs.View.{log-view}
 use Rattle.seglog_prune.specs.declared.Early.{Early}
-use Rattle.seglog_prune.specs.declared.Early.TheVariants.{Refused, Empty, Same, Onward}
+use Rattle.seglog_prune.specs.declared.Early.TheVariants.{Empty, Same, Onward}
 use Rattle.seglog_prune.specs.Decide.{early_of}
 use Rattle.seglog_prune.specs.Prune.{Pruned, pruned, outcome_of, prune_of, prune_answer, prune_area}
 use Rattle.seglog_prune.specs.Steps.{settled_of}
@@ -44,7 +48,7 @@ listed-some l long some z = some (omega (arith, length-take l.count l.segs))
 -- ---- the ways through the tests
 
 -- refusal 2
-pub early-refuses-2 : (a : View) (fits : Bool) (n : ℕ) → fits ≡ false → Refused 2 ≡ early_of a fits n
+pub early-refuses-2 : (a : View) (fits : Bool) (n : ℕ) → fits ≡ false → Err NotShaped ≡ early_of a fits n
 unfolding early_of
 early-refuses-2 a fits n f = simp f
 
@@ -60,18 +64,18 @@ early-keeps a fits n good some z = simp (good, ne_eqb n 0 some, eq-eqb (length a
 
 module _ (a : View) (fits : Bool) (n : ℕ) (good : fits ≡ true) (some : n ≡ 0 → ⊥) (listed : length a.segs ≡ 0 → ⊥) where
   -- refusal 8
-  pub early-refuses-8 : a.end < n → Refused 8 ≡ early_of a fits n
+  pub early-refuses-8 : a.end < n → Err AboveLiveEnd ≡ early_of a fits n
   unfolding early_of
   early-refuses-8 h = simp (good, ne_eqb n 0 some, ne_eqb (length a.segs) 0 listed, lt-ltb a.end n h)
 
   -- refusal 9
-  pub early-refuses-9 : n ≤ a.end → n < a.start → Refused 9 ≡ early_of a fits n
+  pub early-refuses-9 : n ≤ a.end → n < a.start → Err BelowLiveStart ≡ early_of a fits n
   unfolding early_of
   early-refuses-9 h g =
       simp (good, ne_eqb n 0 some, ne_eqb (length a.segs) 0 listed, le-ltb a.end n h, lt-ltb n a.start g)
 
   -- none of them
-  pub early-passes : n ≤ a.end → a.start ≤ n → Onward ≡ early_of a fits n
+  pub early-passes : n ≤ a.end → a.start ≤ n → Ok Onward ≡ early_of a fits n
   unfolding early_of
   early-passes h g =
       simp (good, ne_eqb n 0 some, ne_eqb (length a.segs) 0 listed, le-ltb a.end n h, le-ltb n a.start g)
@@ -87,14 +91,14 @@ pub record Inner (a : View) (fits : Bool) (n : ℕ) : Type 0 where
   pub lower : a.start ≤ n
 
 -- none of them decides: so it is
-pub early-inner : (a : View) (fits : Bool) (n : ℕ) → Onward ≡ early_of a fits n → Inner a fits n
+pub early-inner : (a : View) (fits : Bool) (n : ℕ) → Ok Onward ≡ early_of a fits n → Inner a fits n
 unfolding early_of
 early-inner a fits n e =
     go fits (eqb n 0) (eqb (length a.segs) 0) (ltb a.end n) (ltb n a.start) refl refl refl refl refl e
   where
     go : (t2 t0 t1 t8 t9 : Bool) → fits ≡ t2 → eqb n 0 ≡ t0 → eqb (length a.segs) 0 ≡ t1 → ltb a.end n ≡ t8
         → ltb n a.start ≡ t9
-        → Onward ≡ pick (not t2) (Refused 2) (pick t0 Empty (pick t1 Same (pick t8 (Refused 8) (pick t9 (Refused 9) Onward))))
+        → Ok Onward ≡ pick (not t2) (Err NotShaped) (pick t0 (Ok Empty) (pick t1 (Ok Same) (pick t8 (Err AboveLiveEnd) (pick t9 (Err BelowLiveStart) (Ok Onward)))))
         → Inner a fits n
     go false t0 t1 t8 t9 e2 e0 e1 e8 e9 h = zero-is-not-one (cc)
     go true true t1 t8 t9 e2 e0 e1 e8 e9 h = zero-is-not-one (cc)
@@ -111,7 +115,7 @@ early-inner a fits n e =
         }
 
 -- the easy outcome of an empty log is that of a log that fits
-pub same-fits : (a : View) (fits : Bool) (n : ℕ) → Same ≡ early_of a fits n → fits ≡ true
+pub same-fits : (a : View) (fits : Bool) (n : ℕ) → Ok Same ≡ early_of a fits n → fits ≡ true
 same-fits a fits n e =
     by-test fits (λ h. h) (λ h. let z = early-refuses-2 a fits n h in zero-is-not-one (cc))
 
@@ -130,10 +134,10 @@ module _ (a : View) (fits : Bool) (area : List ℕ) (n : ℕ) (rest : Outcome Pr
   prune-ways Q two empty same eight nine onward =
       by-test fits
       (λ good. rw good
-      (pick-either R (eqb n 0) Empty _ (λ q. empty good)
-      (λ q0. pick-either R (eqb (length a.segs) 0) Same _ (λ q. same good)
-      (λ q1. pick-either R (ltb a.end n) (Refused 8) _ (λ q. eight)
-      (λ q8. pick-either R (ltb n a.start) (Refused 9) _ (λ q. nine)
+      (pick-either R (eqb n 0) (Ok Empty) _ (λ q. empty good)
+      (λ q0. pick-either R (eqb (length a.segs) 0) (Ok Same) _ (λ q. same good)
+      (λ q1. pick-either R (ltb a.end n) (Err AboveLiveEnd) _ (λ q. eight)
+      (λ q8. pick-either R (ltb n a.start) (Err BelowLiveStart) _ (λ q. nine)
       (λ q9. onward (record {
         good = good;
         above = omega (arith, eqb-false n 0 q0);
@@ -143,7 +147,7 @@ module _ (a : View) (fits : Bool) (area : List ℕ) (n : ℕ) (rest : Outcome Pr
       })))))))
       (λ bad. rw bad (two bad))
     where
-      R : Early → Type 0
+      R : Result Early Refusal → Type 0
       R e = Q (outcome_of a area rest e)
 
   -- none of the tests decides
@@ -162,26 +166,32 @@ module _ (a : View) (fits : Bool) (area : List ℕ) (n : ℕ) (rest : Outcome Pr
 -- ---- where the tests decide
 
 module _ (l : Log) (area : List ℕ) (n : ℕ) (rest : Outcome Pruned) (long : length l.segs ≡ 64) where
-  abbrev early : Early
+  abbrev early : Result Early Refusal
   early = early_of (view_of l) (fitting_of l (length area)) n
 
-  -- the answer and the area
-  pub record Settled (e : Early) : Type 0 where
-    pub answer : settled_of l e ≡ prune_answer l (outcome_of (view_of l) area rest early)
-    pub bytes : area ≡ prune_area area (outcome_of (view_of l) area rest early)
+  abbrev whole : Outcome Pruned
+  whole = outcome_of (view_of l) area rest early
 
-  pub early-settles : (e : Early) → e ≡ early → (e ≡ Onward → ⊥) → Settled e
+  -- a refusal's answer and the area
+  pub early-refused : (r : Refusal) → Err r ≡ early
+      → (refused_log (number r) l ≡ prune_answer l whole) × (area ≡ prune_area area whole)
+  early-refused r h =
+      let o : whole ≡ refused (number r) = ap (outcome_of (view_of l) area rest) (sym h) in
+      (ap (prune_answer l) (sym o), ap (prune_area area) (sym o))
+
+  -- an accepted answer's log and the area
+  pub early-settles : (e : Early) → Ok e ≡ early → (e ≡ Onward → ⊥)
+      → (accepted (settled_of l e) ≡ prune_answer l whole) × (area ≡ prune_area area whole)
   early-settles e h tag = go e h tag (ap (outcome_of (view_of l) area rest) (sym h))
     where
-      go : (e : Early) → e ≡ early → (e ≡ Onward → ⊥)
-          → outcome_of (view_of l) area rest early ≡ outcome_of (view_of l) area rest e → Settled e
-      go (Refused m) h tag o = record { answer = ap (prune_answer l) (sym o); bytes = ap (prune_area area) (sym o) }
-      go Empty h tag o = record { answer = ap (prune_answer l) (sym o); bytes = ap (prune_area area) (sym o) }
+      go : (e : Early) → Ok e ≡ early → (e ≡ Onward → ⊥) → whole ≡ outcome_of (view_of l) area rest (Ok e)
+          → (accepted (settled_of l e) ≡ prune_answer l whole) × (area ≡ prune_area area whole)
+      go Empty h tag o = (ap (prune_answer l) (sym o), ap (prune_area area) (sym o))
       go Same h tag o =
           let plain = fits-plain l (length area) (same-fits (view_of l) (fitting_of l (length area)) n h) in
-          record { answer = ap accepted (sym (log-view l long plain)) ∙ ap (prune_answer l) (sym o); bytes = ap (prune_area area) (sym o) }
+          (ap accepted (sym (log-view l long plain)) ∙ ap (prune_answer l) (sym o), ap (prune_area area) (sym o))
       go Onward h tag o = absurd (tag refl)
 
 -- where the log given is the answer
-pub settled-given : (l : Log) (e : Early) → (e ≡ Same) ⊎ (e ≡ Onward) → accepted l ≡ settled_of l e
+pub settled-given : (l : Log) (e : Early) → (e ≡ Same) ⊎ (e ≡ Onward) → l ≡ settled_of l e
 settled-given l e is = ⊎_elim (λ h. sym (ap (settled_of l) h)) (λ h. sym (ap (settled_of l) h)) is

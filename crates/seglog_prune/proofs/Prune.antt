@@ -18,13 +18,16 @@ use lib.ListN.{
   get_or-append,
 }
 use lib.Seq.{drop-append-le, take-take, get_or-take, take-suc}
+use Rattle.std.specs.Prelude.{Result, Ok, Err}
+use Rattle.refusal.specs.declared.Refusal.{Refusal}
+use Rattle.refusal.specs.Refusals.{number}
 use Rattle.segment.specs.declared.Segment.{Segment}
 use Rattle.seglog.specs.declared.Log.{Log}
 use Rattle.seglog.specs.View.{log_of, view_of, head_of, front_of, plain_of}
 use Rattle.seglog.specs.Fit.{fitting_of}
 use Rattle.lists.specs.Outcome.{refused, done}
 use Rattle.segment.specs.Segment.{no_segment}
-use Rattle.seglog.specs.New.{accepted}
+use Rattle.seglog.specs.New.{refused_log, accepted}
 use Rattle.seglog.proofs.View.{log-view, entries_of, set-head, listed-length}
 use Rattle.seglog.proofs.Fit.{SegmentGood}
 use Rattle.seglog_prune.specs.declared.Early.{Early}
@@ -33,7 +36,7 @@ use Rattle.segment.specs.Segment.{image_in, ended_at, padded_to}
 use Rattle.seglog_prune.specs.Decide.{early_of}
 use Rattle.seglog_prune.specs.Drop.{drop_old, drop_new}
 use Rattle.seglog_prune.specs.declared.Newest.{Newest}
-use Rattle.seglog_prune.specs.Cut.{lost, cut_in}
+use Rattle.seglog_prune.specs.Cut.{cut_in}
 use Rattle.seglog_prune.specs.Prune.{
   pruned,
   outcome_of,
@@ -47,24 +50,30 @@ use Rattle.seglog_prune.specs.Prune.{
   prune_area,
 }
 use Rattle.seglog_prune.specs.Steps.{settled_of, ended_log}
-use Rattle.seglog_prune.proofs.Decide.{early-inner, plain-few, early-settles}
+use Rattle.seglog_prune.proofs.Decide.{early-inner, plain-few, early-refused, early-settles}
 use Rattle.seglog_prune.proofs.PruneInside.{InRange, in-range, slot-inside}
 
 -- how far the shared tests lead
-abbrev pub early_log : Log → List ℕ → ℕ → Early
+abbrev pub early_log : Log → List ℕ → ℕ → Result Early Refusal
 early_log l area n = early_of (view_of l) (fitting_of l (length area)) n
 
 -- ---- prune oldest
 
--- the answer and the area where the tests decide
-pub oldest-settled : (l : Log) (area : List ℕ) (n : ℕ) → length l.segs ≡ 64 → (e : Early) → e ≡ early_log l area n
-    → (e ≡ Onward → ⊥)
-    → (settled_of l e ≡ prune_answer l (oldest_log l area n)) × (area ≡ prune_area area (oldest_log l area n))
+-- the answer and the area where the tests refuse
+pub oldest-refused : (l : Log) (area : List ℕ) (n : ℕ) → length l.segs ≡ 64 → (r : Refusal) → Err r ≡ early_log l area n
+    → (refused_log (number r) l ≡ prune_answer l (oldest_log l area n)) × (area ≡ prune_area area (oldest_log l area n))
 unfolding oldest_log prune_oldest_of
-oldest-settled l area n long e h tag = let s = early-settles l area n _ long e h tag in (s.answer, s.bytes)
+oldest-refused l area n long r h = early-refused l area n _ long r h
+
+-- where they accept
+pub oldest-settled : (l : Log) (area : List ℕ) (n : ℕ) → length l.segs ≡ 64 → (e : Early) → Ok e ≡ early_log l area n
+    → (e ≡ Onward → ⊥)
+    → (accepted (settled_of l e) ≡ prune_answer l (oldest_log l area n)) × (area ≡ prune_area area (oldest_log l area n))
+unfolding oldest_log prune_oldest_of
+oldest-settled l area n long e h tag = early-settles l area n _ long e h tag
 
 -- and where none does
-pub oldest-drops : (l : Log) (area : List ℕ) (n : ℕ) → Onward ≡ early_log l area n
+pub oldest-drops : (l : Log) (area : List ℕ) (n : ℕ) → Ok Onward ≡ early_log l area n
     → oldest_log l area n ≡ pruned (started_at (view_of l) n (drop_old n (view_of l).segs)) area
 unfolding oldest_log prune_oldest_of
 oldest-drops l area n h = ap (outcome_of (view_of l) area (pruned (started_at (view_of l) n (drop_old n (view_of l).segs)) area)) (sym h)
@@ -95,16 +104,23 @@ started-is l n first segs long plain within kept e =
 
 -- ---- prune recent
 
-pub recent-settled : (l : Log) (area : List ℕ) (n : ℕ) → length l.segs ≡ 64 → (e : Early) → e ≡ early_log l area n
-    → (e ≡ Onward → ⊥)
-    → (settled_of l e ≡ prune_answer l (recent_log l area n)) × (area ≡ prune_area area (recent_log l area n))
+-- the answer and the area where the tests refuse
+pub recent-refused : (l : Log) (area : List ℕ) (n : ℕ) → length l.segs ≡ 64 → (r : Refusal) → Err r ≡ early_log l area n
+    → (refused_log (number r) l ≡ prune_answer l (recent_log l area n)) × (area ≡ prune_area area (recent_log l area n))
 unfolding recent_log prune_recent_of
-recent-settled l area n long e h tag = let s = early-settles l area n _ long e h tag in (s.answer, s.bytes)
+recent-refused l area n long r h = early-refused l area n _ long r h
+
+-- where they accept
+pub recent-settled : (l : Log) (area : List ℕ) (n : ℕ) → length l.segs ≡ 64 → (e : Early) → Ok e ≡ early_log l area n
+    → (e ≡ Onward → ⊥)
+    → (accepted (settled_of l e) ≡ prune_answer l (recent_log l area n)) × (area ≡ prune_area area (recent_log l area n))
+unfolding recent_log prune_recent_of
+recent-settled l area n long e h tag = early-settles l area n _ long e h tag
 
 -- none of the shared tests decides, and `left` segments stay
 pub record Staying (l : Log) (area : List ℕ) (n left : ℕ) : Type 0 where
   pub long : length l.segs ≡ 64
-  pub onward : Onward ≡ early_log l area n
+  pub onward : Ok Onward ≡ early_log l area n
   pub few : left ≤ l.count
   pub kept : drop_new n (take l.count l.segs) ≡ take left l.segs
 
@@ -152,9 +168,9 @@ module _ (l : Log) (area : List ℕ) (n left : ℕ) (staying : Staying l area n 
       (cut_in g (image_in area l.c g) n)) head-is
       ∙ ap (λ (hs : List Segment). cut_off (view_of l) area n hs head (cut_in head (image_in area l.c head) n)) front-is
 
-  -- refusal 10
-  pub recent-refuses-10 : cut_in head (image_in area l.c head) n ≡ lost → recent_log l area n ≡ refused 10
-  recent-refuses-10 e = recent-is ∙ ap (cut_off (view_of l) area n (take (left - 1) l.segs) head) e
+  -- the cut is refused
+  pub recent-refuses : (m : ℕ) → cut_in head (image_in area l.c head) n ≡ refused m → recent_log l area n ≡ refused m
+  recent-refuses m e = recent-is ∙ ap (cut_off (view_of l) area n (take (left - 1) l.segs) head) e
 
   -- the cut x is found: the answer and the area
   pub recent-answer : (x : Newest) → cut_in head (image_in area l.c head) n ≡ done x

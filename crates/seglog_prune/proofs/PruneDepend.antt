@@ -18,8 +18,11 @@ use Rattle.seglog.proofs.Fit.{SegmentGood}
 use Rattle.walk.specs.Judging.{record_at}
 use Rattle.walk.proofs.Headers.{header-depends}
 use Rattle.seglog_prune.specs.declared.Newest.{Newest}
+use Rattle.std.specs.Prelude.{Result, Ok, Err}
+use Rattle.refusal.specs.declared.Refusal.{Refusal}
+use Rattle.refusal.specs.Refusals.{number}
 use Rattle.seglog_prune.specs.declared.Early.{Early}
-use Rattle.seglog_prune.specs.declared.Early.TheVariants.{Refused, Empty, Same, Onward}
+use Rattle.seglog_prune.specs.declared.Early.TheVariants.{Empty, Same, Onward}
 use Rattle.seglog_prune.specs.Decide.{early_of}
 use Rattle.seglog_prune.specs.Cut.{look_by, look_at, only, cut_in}
 use Rattle.seglog_prune.specs.Prune.{Pruned, pruned, outcome_of, cut_off, prune_recent_of, recent_log}
@@ -92,12 +95,12 @@ newest-cut-depends l area area' n full long g is max same =
     rest : List ℕ → Outcome Pruned
     rest x = cut_off a x n (front_kept l n) head (cut_in head (image_in x l.c head) n)
 
-    by : (e : Early) → e ≡ early_of a (fitting_of l (length area)) n
+    by : (e : Result Early Refusal) → e ≡ early_of a (fitting_of l (length area)) n
         → Agree l area area' (outcome_of a area (rest area) e) (outcome_of a area' (rest area') e)
-    by (Refused m) q = refused-agree l area area' m
-    by Empty q = same-agree l area area' _
-    by Same q = same-agree l area area' a
-    by Onward q =
+    by (Err r) q = refused-agree l area area' (number r)
+    by (Ok Empty) q = same-agree l area area' _
+    by (Ok Same) q = same-agree l area area' a
+    by (Ok Onward) q =
         let r = in-range l area n full (early-inner a (fitting_of l (length area)) n q) in
         let one = cut-same l.k l.c area area' long head r.good
         (subst (λ (y : Segment). part (y.slot * l.c + y.newest_at) 12 area ≡ part (y.slot * l.c + y.newest_at) 12 area') is same)

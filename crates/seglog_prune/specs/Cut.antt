@@ -1,19 +1,17 @@
 -- Where prune recent cuts: a segment's newest record by its header alone (document 02's ask 8), any other by a search of the image, in
 -- document 01's words for 10. Laws: proofs/Cut.antt. Assumes nothing.
-use Rattle.std.specs.Prelude.{List, [], ◌∷◌, ℕ, ◌-◌, length, ltb, eqb}
+use Rattle.std.specs.Prelude.{List, [], ◌∷◌, ℕ, ◌-◌, length, ltb, eqb, Result, Ok, Err}
 use Rattle.lists.specs.Choice.{pick, ◌⇒◌, first}
 use Rattle.lists.specs.Outcome.{Outcome, refused, done}
 use Rattle.lists.specs.Until.{Turn, again, stop, until}
 use Rattle.record.specs.Record.{header_at}
 use Rattle.segment.specs.declared.Segment.{Segment}
-use Rattle.walk.specs.declared.RecordAnswer.{RecordAnswer}
-use Rattle.walk.specs.declared.RecordAnswer.TheVariants.{Record, Refused}
+use Rattle.refusal.specs.declared.Refusal.{Refusal}
+use Rattle.walk.specs.declared.Placed.{Placed}
 use Rattle.walk.specs.Judging.{record_at}
 use Rattle.seglog_prune.specs.declared.Newest.{Newest}
 use Rattle.seglog_prune.specs.declared.Look.{Look}
 use Rattle.seglog_prune.specs.declared.Look.TheVariants.{Here, Other, Nothing}
-use Rattle.seglog_prune.specs.declared.CutAnswer.{CutAnswer}
-use Rattle.seglog_prune.specs.declared.CutAnswer.TheVariants.{At, Lost}
 
 -- refusal 10: the cut is not found
 abbrev pub lost : Outcome Newest
@@ -23,9 +21,9 @@ lost = refused 10
 
 -- what stands at a place of an image of `size` bytes, to one who looks for the record n: "short header, length above 2^30, a payload that
 -- ends past the size" are no record, whether or not it is of the one looked for; the sequence is not looked at
-abbrev pub look_by : (size n at : ℕ) → RecordAnswer → Look
-look_by size n at (Refused m) = Nothing
-look_by size n at (Record p) =
+abbrev pub look_by : (size n at : ℕ) → Result Placed Refusal → Look
+look_by size n at (Err r) = Nothing
+look_by size n at (Ok p) =
     first ((ltb size p.end ⇒ Nothing) ∷ (eqb p.id n ⇒ Here (record { at = at; end = p.next })) ∷ []) (Other p.next)
 
 -- and by the header there
@@ -65,8 +63,3 @@ find_cut img n at = until (cut_turn img n) (λ x. lost) (λ x. length img - x) a
 -- the record n of the segment g, whose image is img: "A cut at a segment's max looks only at that header"; any other is searched
 unfoldable pub cut_in : Segment → List ℕ → ℕ → Outcome Newest
 cut_in g img n = pick (eqb g.max n) (cut_at img n g.newest_at) (find_cut img n 0)
-
--- what each answer of the code is: the cut, or document 01's number
-abbrev pub cut_of : CutAnswer → Outcome Newest
-cut_of (At x) = done x
-cut_of Lost = lost

@@ -1,6 +1,6 @@
 -- The statements that docs/PROMISES.md cites; proofs: Decide.antt, CutNewest.antt, PruneFrame.antt, PruneDepend.antt and PruneShape.antt in proofs/.
 -- `length l.segs ≡ 64` is the array's type. Assumes nothing.
-use Rattle.std.specs.Prelude.{◌≡◌, Bool, true, not, List, [], ◌∷◌, ℕ, ◌+◌, ◌*◌, ◌≤◌, length, ltb, eqb}
+use Rattle.std.specs.Prelude.{◌≡◌, Bool, true, not, List, [], ◌∷◌, ℕ, ◌+◌, ◌*◌, ◌≤◌, length, ltb, eqb, Ok}
 use Rattle.lists.specs.Choice.{◌⇒◌, first}
 use Rattle.lists.specs.Outcome.{Outcome, done}
 use Rattle.little_endian.specs.LittleEndian.{le_at}
@@ -21,11 +21,11 @@ use Rattle.seglog_prune.specs.Prune.{Pruned, pruned, oldest_log, recent_log, pru
 
 -- "argument 0 gives the empty log"
 abbrev pub EarlyEmpties : Type 0
-EarlyEmpties = (a : View) (fits : Bool) (n : ℕ) → fits ≡ true → n ≡ 0 → Empty ≡ early_of a fits n
+EarlyEmpties = (a : View) (fits : Bool) (n : ℕ) → fits ≡ true → n ≡ 0 → Ok Empty ≡ early_of a fits n
 
 -- "on an empty log any argument gives the same log"
 abbrev pub EarlyKeeps : Type 0
-EarlyKeeps = (a : View) (fits : Bool) (n : ℕ) → fits ≡ true → (n ≡ 0 → ⊥) → length a.segs ≡ 0 → Same ≡ early_of a fits n
+EarlyKeeps = (a : View) (fits : Bool) (n : ℕ) → fits ≡ true → (n ≡ 0 → ⊥) → length a.segs ≡ 0 → Ok Same ≡ early_of a fits n
 
 -- beside a refusal's number stands the log given, and no byte is changed
 abbrev pub RefusalKeeps : Type 0

@@ -1,15 +1,16 @@
 -- The two prunes, as document 01 says them: 2, the two easy outcomes, 8, 9, and for prune recent 10. Assumes nothing.
-use Rattle.std.specs.Prelude.{Bool, List, [], ◌∷◌, ◌++◌, ℕ, length}
+use Rattle.std.specs.Prelude.{Bool, List, [], ◌∷◌, ◌++◌, ℕ, length, Result, Ok, Err}
 use Rattle.lists.specs.Outcome.{Outcome, refused, done, either, kept}
+use Rattle.refusal.specs.declared.Refusal.{Refusal}
+use Rattle.refusal.specs.Refusals.{number}
 use Rattle.segment.specs.declared.Segment.{Segment}
 use Rattle.segment.specs.Segment.{image_in, ended_at, padded_to}
 use Rattle.seglog.specs.declared.Log.{Log}
-use Rattle.seglog.specs.declared.Logged.{Logged}
 use Rattle.seglog.specs.View.{View, view_of, log_of, empty_of, head_of, front_of}
 use Rattle.seglog.specs.Fit.{fitting_of}
-use Rattle.seglog.specs.New.{refused_log, accepted}
+use Rattle.seglog.specs.New.{Logged, refused_log, accepted}
 use Rattle.seglog_prune.specs.declared.Early.{Early}
-use Rattle.seglog_prune.specs.declared.Early.TheVariants.{Refused, Empty, Same, Onward}
+use Rattle.seglog_prune.specs.declared.Early.TheVariants.{Empty, Same, Onward}
 use Rattle.seglog_prune.specs.Decide.{early_of}
 use Rattle.seglog_prune.specs.Drop.{drop_old, drop_new}
 use Rattle.seglog_prune.specs.declared.Newest.{Newest}
@@ -25,11 +26,11 @@ abbrev pub pruned : View → List ℕ → Outcome Pruned
 pruned a area = done (record { log = a; area = area })
 
 -- what each case of the shared tests is: document 01's number, one of the two easy outcomes, or what the prune does besides
-abbrev pub outcome_of : View → List ℕ → (rest : Outcome Pruned) → Early → Outcome Pruned
-outcome_of a area rest (Refused n) = refused n
-outcome_of a area rest Empty = pruned (empty_of a.k a.c a.m) area
-outcome_of a area rest Same = pruned a area
-outcome_of a area rest Onward = rest
+abbrev pub outcome_of : View → List ℕ → (rest : Outcome Pruned) → Result Early Refusal → Outcome Pruned
+outcome_of a area rest (Err r) = refused (number r)
+outcome_of a area rest (Ok Empty) = pruned (empty_of a.k a.c a.m) area
+outcome_of a area rest (Ok Same) = pruned a area
+outcome_of a area rest (Ok Onward) = rest
 
 -- a prune to n: the shared tests, and what it does besides; `fits` says that 2 is not met
 abbrev pub prune_of : View → (fits : Bool) → List ℕ → ℕ → Outcome Pruned → Outcome Pruned

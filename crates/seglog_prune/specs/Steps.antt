@@ -1,21 +1,18 @@
 -- What the parts of the code answer, in the terms of Prune.antt. Assumes nothing.
 use Rattle.std.specs.Prelude.{ℕ, ◌-◌, get_or, take}
 use Rattle.seglog.specs.declared.Log.{Log}
-use Rattle.seglog.specs.declared.Logged.{Logged}
 use Rattle.seglog.specs.View.{log_of, view_of, empty_of}
 use Rattle.segment.specs.Segment.{no_segment}
-use Rattle.seglog.specs.New.{refused_log, accepted}
 use Rattle.seglog_prune.specs.declared.Newest.{Newest}
 use Rattle.seglog_prune.specs.declared.Early.{Early}
-use Rattle.seglog_prune.specs.declared.Early.TheVariants.{Refused, Empty, Same, Onward}
+use Rattle.seglog_prune.specs.declared.Early.TheVariants.{Empty, Same, Onward}
 use Rattle.seglog_prune.specs.Prune.{ended_view}
 
--- the answer where the shared tests decide
-abbrev pub settled_of : Log → Early → Logged
-settled_of l (Refused n) = refused_log n l
-settled_of l Empty = accepted (log_of (empty_of l.k l.c l.m))
-settled_of l Same = accepted l
-settled_of l Onward = accepted l
+-- the log where the shared tests decide
+abbrev pub settled_of : Log → Early → Log
+settled_of l Empty = log_of (empty_of l.k l.c l.m)
+settled_of l Same = l
+settled_of l Onward = l
 
 -- the first `left` segments of a log, of which the last ends with the record n, which is x
 abbrev pub ended_log : Log → (left n : ℕ) → Newest → Log

@@ -3,23 +3,24 @@
 #![tactic(auto)]
 
 ghost use Rattle.std.specs.Prelude.{◌≡◌, ◌++◌, ◌-◌, ◌≤◌, ◌<◌, take, drop, replicate, true};
+ghost use Rattle.refusal.specs.Refusals.{outcome};
 ghost use Rattle.seglog.specs.View.{log_of, view_of, plain_of};
 ghost use Rattle.seglog.specs.Fit.{fitting_of};
+ghost use Rattle.seglog.specs.New.{logged};
 ghost use Rattle.segment.specs.Segment.{no_segment};
 ghost use Rattle.seglog_prune.specs.Decide.{early_of};
 ghost use Rattle.seglog_prune.specs.Drop.{drop_old, drop_new};
-ghost use Rattle.seglog_prune.specs.Cut.{look_at, cut_at, find_cut, cut_in, cut_of};
+ghost use Rattle.seglog_prune.specs.Cut.{look_at, cut_at, find_cut, cut_in};
 ghost use Rattle.seglog_prune.specs.Prune.{started_at, oldest_log, recent_log, prune_answer, prune_area};
 ghost use Rattle.seglog_prune.specs.Steps.{settled_of, ended_log};
 
-use seglog::{Log, Logged};
+use refusal::Refusal;
+use seglog::{Log, Shape};
 use segment::Segment;
-use walk::RecordAnswer;
 
 // How far the tests that both prunes share lead.
 #[derive(Clone, Copy)]
 enum Early {
-    Refused(u32),
     // argument 0
     Empty,
     // an empty log
@@ -40,13 +41,6 @@ enum Look {
     Here(Newest),
     Other(u64),
     Nothing,
-}
-
-// The record looked for, or that it is not there.
-#[derive(Clone, Copy)]
-enum CutAnswer {
-    At(Newest),
-    Lost,
 }
 
 // How many leading segments have a max below n; never all of them.
@@ -115,7 +109,7 @@ fn look_at(img: &[u8], n: u64, at: u64) -> Look
 {
     let size = img.len() as u64;
     let answer = record::read_header(img, at as usize);
-    let RecordAnswer::Record(found) = walk::record_at(size, at, answer) else {
+    let Ok(found) = walk::record_at(size, at, answer) else {
         return Look::Nothing;
     };
     if size < found.end {
@@ -131,34 +125,34 @@ fn look_at(img: &[u8], n: u64, at: u64) -> Look
 }
 
 // The record n by the one header at a place.
-fn cut_at(img: &[u8], n: u64, at: u64) -> CutAnswer
-    ensures { cut_of result ≡ cut_at img.now n at }
+fn cut_at(img: &[u8], n: u64, at: u64) -> Result<Newest, Refusal>
+    ensures { outcome result ≡ cut_at img.now n at }
 {
     match look_at(img, n, at) {
-        Look::Here(newest) => CutAnswer::At(newest),
-        Look::Other(_) | Look::Nothing => CutAnswer::Lost,
+        Look::Here(newest) => Ok(newest),
+        Look::Other(_) | Look::Nothing => Err(Refusal::CutNotFound),
     }
 }
 
 // The first record of an image that has the id n, by the headers from the front on.
-fn find_cut(img: &[u8], n: u64) -> CutAnswer
-    ensures { cut_of result ≡ find_cut img.now n 0 }
+fn find_cut(img: &[u8], n: u64) -> Result<Newest, Refusal>
+    ensures { outcome result ≡ find_cut img.now n 0 }
 {
     let size = img.len() as u64;
     let mut at: u64 = 0;
     while at < size {
         match look_at(img, n, at) {
-            Look::Here(newest) => return CutAnswer::At(newest),
+            Look::Here(newest) => return Ok(newest),
             Look::Other(next) => at = next,
-            Look::Nothing => return CutAnswer::Lost,
+            Look::Nothing => return Err(Refusal::CutNotFound),
         }
     }
-    CutAnswer::Lost
+    Err(Refusal::CutNotFound)
 }
 
 // The record n of a segment with its image: the newest one by its header alone, any other by the search.
-fn cut_in(g: Segment, img: &[u8], n: u64) -> CutAnswer
-    ensures { cut_of result ≡ cut_in g img.now n }
+fn cut_in(g: Segment, img: &[u8], n: u64) -> Result<Newest, Refusal>
+    ensures { outcome result ≡ cut_in g img.now n }
 {
     if g.max == n {
         return cut_at(img, n, g.newest_at);
@@ -167,41 +161,38 @@ fn cut_in(g: Segment, img: &[u8], n: u64) -> CutAnswer
 }
 
 // 2, the two easy outcomes, 8, 9.
-fn decide_early(log: Log, bytes: usize, n: u64) -> Early
+fn decide_early(log: Log, bytes: usize, n: u64) -> Result<Early, Refusal>
     ensures { result ≡ early_of (view_of log) (fitting_of log bytes) n }
 {
     if !seglog::fits(log, bytes) {
-        return Early::Refused(2);
+        return Err(Refusal::NotShaped);
     }
     if n == 0 {
-        return Early::Empty;
+        return Ok(Early::Empty);
     }
     if log.count == 0 {
-        return Early::Same;
+        return Ok(Early::Same);
     }
     if log.end < n {
-        return Early::Refused(8);
+        return Err(Refusal::AboveLiveEnd);
     }
     if n < log.start {
-        return Early::Refused(9);
+        return Err(Refusal::BelowLiveStart);
     }
-    Early::Onward
+    Ok(Early::Onward)
 }
 
-// The answer where the shared tests decide.
-fn settled(log: Log, outcome: Early) -> Logged
-    ensures { result ≡ settled_of log outcome }
+// The log where the shared tests decide.
+fn settled(log: Log, early: Early) -> Log
+    ensures { result ≡ settled_of log early }
 {
-    match outcome {
-        Early::Refused(number) => Logged {
-            refusal: number,
-            log,
-        },
-        Early::Empty => Logged {
-            refusal: 0,
-            log: seglog::empty_log(log.k, log.c, log.m),
-        },
-        Early::Same | Early::Onward => Logged { refusal: 0, log },
+    match early {
+        Early::Empty => seglog::empty_log(Shape {
+            k: log.k,
+            c: log.c,
+            m: log.m,
+        }),
+        Early::Same | Early::Onward => log,
     }
 }
 
@@ -245,40 +236,32 @@ fn ended(log: Log, left: usize, n: u64, newest: Newest) -> Log
 }
 
 // Drops the leading segments that hold no record from `new_start_live` on. No byte of the area is touched.
-pub fn prune_oldest(log: Log, area: &mut [u8], new_start_live: u64) -> Logged
-    ensures answer { result ≡ prune_answer log (oldest_log log area.old new_start_live) }
+pub fn prune_oldest(log: Log, area: &mut [u8], new_start_live: u64) -> Result<Log, Refusal>
+    ensures answer { logged log result ≡ prune_answer log (oldest_log log area.old new_start_live) }
     ensures bytes { area.new ≡ prune_area area.old (oldest_log log area.old new_start_live) }
 {
-    let outcome = decide_early(log, area.len(), new_start_live);
-    let Early::Onward = outcome else {
-        return settled(log, outcome);
+    let early = decide_early(log, area.len(), new_start_live)?;
+    let Early::Onward = early else {
+        return Ok(settled(log, early));
     };
-    Logged {
-        refusal: 0,
-        log: started(log, new_start_live),
-    }
+    Ok(started(log, new_start_live))
 }
 
 // Drops the records behind `new_end_live`: whole segments, and the rest of the segment that holds it. Only its missing padding is written.
-pub fn prune_recent(log: Log, area: &mut [u8], new_end_live: u64) -> Logged
-    ensures answer { result ≡ prune_answer log (recent_log log area.old new_end_live) }
+pub fn prune_recent(log: Log, area: &mut [u8], new_end_live: u64) -> Result<Log, Refusal>
+    ensures answer { logged log result ≡ prune_answer log (recent_log log area.old new_end_live) }
     ensures bytes { area.new ≡ prune_area area.old (recent_log log area.old new_end_live) }
 {
-    let outcome = decide_early(log, area.len(), new_end_live);
-    let Early::Onward = outcome else {
-        return settled(log, outcome);
+    let early = decide_early(log, area.len(), new_end_live)?;
+    let Early::Onward = early else {
+        return Ok(settled(log, early));
     };
     let segs = log.segs;
     let left = remaining(segs, log.count, new_end_live);
     let head = segs[left - 1];
     let from = (head.slot as u64 * log.c) as usize;
     let to = from + head.size as usize;
-    let CutAnswer::At(newest) = cut_in(head, &area[from..to], new_end_live) else {
-        return Logged { refusal: 10, log };
-    };
+    let newest = cut_in(head, &area[from..to], new_end_live)?;
     segment::truncate(area, log.c, head.slot, head.size, newest.end);
-    Logged {
-        refusal: 0,
-        log: ended(log, left, new_end_live, newest),
-    }
+    Ok(ended(log, left, new_end_live, newest))
 }

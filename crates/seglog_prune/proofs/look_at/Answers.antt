@@ -2,7 +2,7 @@
 use mathlib.Core.Path.{◌≡◌, sym, ap, ◌∙◌}
 use lib.ListN.{length}
 use Rattle.record.proofs.Record.{header-answer}
-use Rattle.walk.specs.declared.RecordAnswer.TheVariants.{Record}
+use Rattle.std.specs.Prelude.{Ok}
 use Rattle.walk.specs.Judging.{record_at}
 use Rattle.seglog_prune.proofs.Cut.{found_at, look-unread, look-past, look-here, look-other}
 use Rattle.seglog_prune.proofs.look_at.Goals as goal
@@ -19,8 +19,8 @@ returns-then-size-found c =
     let answer-is : let a = c.args in found_at a.img.now a.n a.at ≡ c.record_at.result = let a = c.args in
     let h = c.read_header-answer in
     sym (ap (record_at (length a.img.now) a.at) (header-answer h.result _ _ h.ensures)) ∙ sym c.record_at.ensures in
-    let found_of = c.in-Record.found in
-    let read : let a = c.args in found_at a.img.now a.n a.at ≡ Record found_of = answer-is ∙ c.in-Record.is in
+    let found_of = c.in-Ok.found in
+    let read : let a = c.args in found_at a.img.now a.n a.at ≡ Ok found_of = answer-is ∙ c.in-Ok.is in
     look-past _ _ _ _ read c.if-size-found.true
 
 pub returns-then-found-n : goal.returns-then-found-n
@@ -28,8 +28,8 @@ returns-then-found-n c =
     let answer-is : let a = c.args in found_at a.img.now a.n a.at ≡ c.record_at.result = let a = c.args in
     let h = c.read_header-answer in
     sym (ap (record_at (length a.img.now) a.at) (header-answer h.result _ _ h.ensures)) ∙ sym c.record_at.ensures in
-    let found_of = c.in-Record.found in
-    let read : let a = c.args in found_at a.img.now a.n a.at ≡ Record found_of = answer-is ∙ c.in-Record.is in
+    let found_of = c.in-Ok.found in
+    let read : let a = c.args in found_at a.img.now a.n a.at ≡ Ok found_of = answer-is ∙ c.in-Ok.is in
     look-here _ _ _ _ read c.if-size-found.false c.if-found-n.true
 
 pub returns : goal.returns
@@ -37,6 +37,6 @@ returns c =
     let answer-is : let a = c.args in found_at a.img.now a.n a.at ≡ c.record_at.result = let a = c.args in
     let h = c.read_header-answer in
     sym (ap (record_at (length a.img.now) a.at) (header-answer h.result _ _ h.ensures)) ∙ sym c.record_at.ensures in
-    let found_of = c.in-Record.found in
-    let read : let a = c.args in found_at a.img.now a.n a.at ≡ Record found_of = answer-is ∙ c.in-Record.is in
+    let found_of = c.in-Ok.found in
+    let read : let a = c.args in found_at a.img.now a.n a.at ≡ Ok found_of = answer-is ∙ c.in-Ok.is in
     look-other _ _ _ _ read c.if-size-found.false c.if-found-n.false
