@@ -8,7 +8,7 @@ ghost use Rattle.segment.specs.Cut.{inside_of, truncated_area};
 
 // One listed segment: its image is the first `size` bytes of its slot.
 #[repr(C)]
-#[derive(Clone, Copy)]
+#[derive(Clone, Copy, Debug, Default, PartialEq, Eq)]
 pub struct Segment {
     pub id: u32,
     pub slot: u32,
@@ -22,7 +22,7 @@ pub struct Segment {
 
 // An image row: which slot holds the image of a segment, and how many bytes it has.
 #[repr(C)]
-#[derive(Clone, Copy)]
+#[derive(Clone, Copy, Debug, Default, PartialEq, Eq)]
 pub struct ImageRow {
     pub id: u32,
     pub slot: u32,
@@ -33,25 +33,14 @@ pub struct ImageRow {
 pub fn no_segment() -> Segment
     ensures { result ≡ no_segment }
 {
-    Segment {
-        id: 0,
-        slot: 0,
-        size: 0,
-        min: 0,
-        max: 0,
-        newest_at: 0,
-    }
+    Segment::default()
 }
 
 // The entry of no row.
 pub fn no_row() -> ImageRow
     ensures { result ≡ no_row }
 {
-    ImageRow {
-        id: 0,
-        slot: 0,
-        size: 0,
-    }
+    ImageRow::default()
 }
 
 // The segment, ended with the record n, whose header starts at `at` and whose padded end is x.
@@ -59,12 +48,10 @@ pub fn ended_at(g: Segment, n: u64, at: u64, x: u64) -> Segment
     ensures { result ≡ ended_at g n at x }
 {
     Segment {
-        id: g.id,
-        slot: g.slot,
         size: x,
-        min: g.min,
         max: n,
         newest_at: at,
+        ..g
     }
 }
 
@@ -72,25 +59,15 @@ pub fn ended_at(g: Segment, n: u64, at: u64, x: u64) -> Segment
 pub fn slot_inside(c: u64, slot: u32, bytes: usize) -> bool
     ensures { result ≡ inside_of c slot bytes }
 {
-    if c == 0 {
-        return true;
-    }
-    (slot as u64) < bytes as u64 / c
+    c == 0 || u64::from(slot) < bytes as u64 / c
 }
 
 // Cuts an image of `size` bytes at x: what is missing up to x is written as zeros.
 pub fn truncate(area: &mut [u8], c: u64, slot: u32, size: u64, x: u64)
     ensures { area.new ≡ truncated_area area.old c slot size x }
 {
-    if !slot_inside(c, slot, area.len()) {
-        return;
+    if size < x && x <= c && slot_inside(c, slot, area.len()) {
+        let from = u64::from(slot) * c;
+        lists::zero_fill(area, (from + size) as usize, (from + x) as usize);
     }
-    if c < x {
-        return;
-    }
-    if x <= size {
-        return;
-    }
-    let from = slot as u64 * c;
-    lists::zero_fill(area, (from + size) as usize, (from + x) as usize);
 }

@@ -1,53 +1,28 @@
--- `truncate` meets its contract: each return is a way of its definition, and no sum is formed that could pass 64 bits.
+-- `truncate` meets its contract: where something is missing and it lies in the slot, zeros; else nothing changes.
 -- Assumes nothing.
-use mathlib.Core.Path.{◌≡◌, sym, ap, ◌∙◌}
+use mathlib.Core.Path.{◌≡◌, sym, ◌∙◌}
 use Prim.Native.Nat.{ℕ, ◌+◌, ◌*◌, ◌-◌, ◌≤◌}
 use native.Mathlib.Omega.{arith}
-use lib.ListN.{length, replicate}
+use lib.ListN.{length}
 use borrow.Author.Tests.{leb-true}
-use Rattle.lists.specs.Splice.{splice}
 use Rattle.segment.proofs.Cut.{truncated-outside, truncated-past, truncated-tail, truncated-whole}
+use Rattle.segment.proofs.truncate.Goals.{else-size-x-via-then-size-x+then-x-c+else-slot_inside, else-size-x-via-then-size-x+else-x-c, else-size-x-via-else-size-x}
 use Rattle.segment.proofs.truncate.Goals as goal
 
-pub returns-then-not-slot_inside : goal.returns-then-not-slot_inside
-returns-then-not-slot_inside c =
+pub returns-then-slot_inside : goal.returns-then-slot_inside
+returns-then-slot_inside c =
     let a = c.args in
-    sym (truncated-outside a.area.now a.c a.slot a.size a.x
-    (sym c.slot_inside.ensures ∙ c.if-not-slot_inside.true))
-
-pub returns-then-c-x : goal.returns-then-c-x
-returns-then-c-x c =
-    let inside : let a = c.args in a.slot * a.c + a.c ≤ length a.area.now = leb-true _ _ (sym c.slot_inside.ensures ∙ c.if-not-slot_inside.false) in
-    let a = c.args in
-    sym (truncated-past a.area.now a.c a.slot a.size a.x inside c.if-c-x.true)
-
-pub returns-then-x-size : goal.returns-then-x-size
-returns-then-x-size c =
-    let inside : let a = c.args in a.slot * a.c + a.c ≤ length a.area.now = leb-true _ _ (sym c.slot_inside.ensures ∙ c.if-not-slot_inside.false) in
-    let a = c.args in
-    sym (truncated-whole a.area.now a.c a.slot a.size a.x inside c.if-c-x.false
-    c.if-x-size.true)
-
-pub overflow_mul-from : goal.overflow_mul-from
-overflow_mul-from c =
-    let inside : let a = c.args in a.slot * a.c + a.c ≤ length a.area.now = leb-true _ _ (sym c.slot_inside.ensures ∙ c.if-not-slot_inside.false) in
-    omega (arith, inside)
-
-pub overflow_add-from : goal.overflow_add-from
-overflow_add-from c =
-    let inside : let a = c.args in a.slot * a.c + a.c ≤ length a.area.now = leb-true _ _ (sym c.slot_inside.ensures ∙ c.if-not-slot_inside.false) in
-    omega (arith, inside)
-
-pub overflow_add-from-2 : goal.overflow_add-from-2
-overflow_add-from-2 c =
-    let inside : let a = c.args in a.slot * a.c + a.c ≤ length a.area.now = leb-true _ _ (sym c.slot_inside.ensures ∙ c.if-not-slot_inside.false) in
-    omega (arith, inside)
-
-pub returns : goal.returns
-returns c =
-    let inside : let a = c.args in a.slot * a.c + a.c ≤ length a.area.now = leb-true _ _ (sym c.slot_inside.ensures ∙ c.if-not-slot_inside.false) in
-    let a = c.args in
+    let inside : a.slot * a.c + a.c ≤ length a.area.now = leb-true _ _ (sym c.slot_inside.ensures ∙ c.if-slot_inside.true) in
     let from : ℕ = a.slot * a.c in
+    let start = c.from.ensures in
     let size : from + a.x - (from + a.size) ≡ a.x - a.size = omega arith in
-    c.zero_fill.ensures ∙ ap (λ (n : ℕ). splice (from + a.size) (replicate n 0) a.area.now) size
-    ∙ sym (truncated-tail a.area.now a.c a.slot a.size a.x inside c.if-c-x.false)
+    c.zero_fill.ensures ∙ rw (start, size) (sym (truncated-tail a.area.now a.c a.slot a.size a.x inside c.if-x-c.true))
+
+pub returns-else-size-x : goal.returns-else-size-x
+returns-else-size-x c =
+    let a = c.args in
+    sym (elim c.else-size-x.branch [
+      | else-size-x-via-then-size-x+then-x-c+else-slot_inside w ↦ truncated-outside a.area.now a.c a.slot a.size a.x (sym w.slot_inside.ensures ∙ w.if-slot_inside.false)
+      | else-size-x-via-then-size-x+else-x-c w ↦ truncated-past a.area.now a.c a.slot a.size a.x w.if-x-c.false
+      | else-size-x-via-else-size-x w ↦ truncated-whole a.area.now a.c a.slot a.size a.x w.if-size-x.false
+    ])
