@@ -13,12 +13,15 @@ use Rattle.lists.proofs.Cases.{by-test, by_order}
 use Rattle.lists.proofs.Splice.{part-part, splice-before, splice-after, splice-length}
 use Rattle.record.specs.Record.{header_at}
 use Rattle.record.proofs.Record.{header-short as read_short}
+use Rattle.refusal.specs.declared.Refusal.{Refusal}
+use Rattle.refusal.proofs.Refusals.{outcomes-differ}
 use Rattle.segment.specs.declared.Segment.{Segment}
 use Rattle.segment.specs.declared.ImageRow.{ImageRow}
 use Rattle.segment.specs.Segment.{image_of}
 use Rattle.walk.specs.declared.Scan.{Scan}
-use Rattle.walk.specs.declared.Walked.{Walked}
-use Rattle.walk.specs.declared.Walked.TheVariants.{Ended, Faulted}
+use Rattle.walk.specs.declared.Fault.{Fault}
+use Rattle.std.specs.Prelude.{Result, Ok, Err}
+use Rattle.refusal.specs.declared.Refusal.TheVariants.{ImageGap}
 use Rattle.walk.specs.Judging.{gap_of, opened_of, start_of}
 use Rattle.walk.specs.Walk.{walk_by, walk_of}
 use Rattle.walk.specs.Headers.{EachHeader}
@@ -99,19 +102,19 @@ module _ (area area' : List ℕ) (c s e : ℕ) (long : length area ≡ length ar
   unfolding images
   images-depend [] w no-image = refl
   images-depend (r ∷ rs) w (gap-over h) =
-      images-fault area c s e r w rs 16 w (image-gapped area c s e r w h)
-      ∙ sym (images-fault area' c s e r w rs 16 w (image-gapped area' c s e r w h))
+      images-fault area c s e r w rs (record { refusal = ImageGap; scan = w }) (image-gapped area c s e r w h)
+      ∙ sym (images-fault area' c s e r w rs (record { refusal = ImageGap; scan = w }) (image-gapped area' c s e r w h))
   images-depend (r ∷ rs) w (image-here each k) =
       go (image_walk area c s e r w) refl (λ d m. images-depend rs d (k d m))
     where
       same : image_walk area c s e r w ≡ image_walk area' c s e r w
       same = image-same r w each
 
-      go : (o : Walked) → image_walk area c s e r w ≡ o
-          → ((d : Scan) → image_walk area c s e r w ≡ Ended d → images area c s e rs d ≡ images area' c s e rs d)
+      go : (o : Result Scan Fault) → image_walk area c s e r w ≡ o
+          → ((d : Scan) → image_walk area c s e r w ≡ Ok d → images area c s e rs d ≡ images area' c s e rs d)
           → images area c s e (r ∷ rs) w ≡ images area' c s e (r ∷ rs) w
-      go (Faulted m v) t ih = images-fault area c s e r w rs m v t ∙ sym (images-fault area' c s e r w rs m v (sym same ∙ t))
-      go (Ended d) t ih =
+      go (Err f) t ih = images-fault area c s e r w rs f t ∙ sym (images-fault area' c s e r w rs f (sym same ∙ t))
+      go (Ok d) t ih =
           images-next area c s e r w rs d t ∙ ap (behind (filled_of r d ∷ [])) (ih d t)
           ∙ sym (images-next area' c s e r w rs d (sym same ∙ t))
 
@@ -122,7 +125,7 @@ module _ (area area' : List ℕ) (c s e : ℕ) (long : length area ≡ length ar
   unfolding rows_all
   rows-depend [] w d hs ws no-image q = refl
   rows-depend (r ∷ rs) w d hs ws (gap-over h) q =
-      zero-is-not-one (cc (sym (images-fault area c s e r w rs 16 w (image-gapped area c s e r w h)) ∙ q))
+      zero-is-not-one (cc (sym (images-fault area c s e r w rs (record { refusal = ImageGap; scan = w }) (image-gapped area c s e r w h)) ∙ q))
   rows-depend (r ∷ rs) w d hs ws (image-here each k) q =
       let f = first-walked area c s e r w rs d hs q in
       let from : Scan = opened_of w r.size in
@@ -154,12 +157,12 @@ scan-depends area area' c s e long rows words w =
     by-outcome l (done (d, hs)) q = rw (same, rows-depend area area' c s e long rows start_of d hs [] w q) refl
 
 -- so two calls that are allowed on them answer the same, and leave the same index
-pub calls-agree : (area area' : List ℕ) (c s e : ℕ) → length area ≡ length area' → (count : ℕ) (rows : List ImageRow)
-    (index index₁ index₂ : List ℕ) (r₁ r₂ : Scanned) → EachWalked (SameHeader area area') area c s e (take count rows) start_of
-    → ScanDid area c s e count rows index index₁ r₁ → ScanDid area' c s e count rows index index₂ r₂ → (r₁ ≡ r₂) × (index₁ ≡ index₂)
-calls-agree area area' c s e long count rows index index₁ index₂ r₁ r₂ w did₁ did₂ =
-    let a = scan-depends area area' c s e long (take count rows) (length index) w in
-    (did₁.answer ∙ ap scanned_of a.outcome ∙ sym did₂.answer, did₁.words ∙ a.index index ∙ sym did₂.words)
+pub calls-agree : (area area' : List ℕ) (c s e : ℕ) → length area ≡ length area' → (rows : List ImageRow)
+    (index index₁ index₂ : List ℕ) (r₁ r₂ : Result Scanned Refusal) → EachWalked (SameHeader area area') area c s e rows start_of
+    → ScanDid area c s e rows index index₁ r₁ → ScanDid area' c s e rows index index₂ r₂ → (r₁ ≡ r₂) × (index₁ ≡ index₂)
+calls-agree area area' c s e long rows index index₁ index₂ r₁ r₂ w did₁ did₂ =
+    let a = scan-depends area area' c s e long rows (length index) w in
+    (outcomes-differ Scanned r₁ r₂ (did₁.answer ∙ ap scanned_of a.outcome ∙ sym did₂.answer), did₁.words ∙ a.index index ∙ sym did₂.words)
 
 -- ---- bytes that are not in a header
 

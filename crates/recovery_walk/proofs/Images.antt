@@ -1,6 +1,6 @@
 -- The laws of the images: the ways of one image, what an accepted walk tells of its first image, and the numbers of a refusal.
 -- Assumes nothing.
-use mathlib.Core.Path.{◌≡◌, refl, sym, ap, ◌∙◌}
+use mathlib.Core.Path.{◌≡◌, refl, sym, ap, subst, ◌∙◌}
 use mathlib.Core.List.{List, [], ◌∷◌}
 use mathlib.Core.Bool.{true, false}
 use Prim.Native.Nat.{ℕ, ◌≤◌}
@@ -8,21 +8,22 @@ use native.Mathlib.Omega.{arith}
 use lib.ListN.{length}
 use Rattle.lists.specs.Outcome.{Outcome, refused, done}
 use Rattle.lists.proofs.Bools.{zero-is-not-one}
-use Rattle.lists.proofs.Outcome.{done-injective}
+use Rattle.lists.proofs.Outcome.{done-injective, refused-injective, refused-is-not-done}
 use Rattle.lists.proofs.Cases.{by-test}
 use Rattle.record.specs.Record.{header_at}
 use Rattle.segment.specs.declared.Segment.{Segment}
 use Rattle.segment.specs.declared.ImageRow.{ImageRow}
 use Rattle.segment.specs.Segment.{image_of}
 use Rattle.walk.specs.declared.Scan.{Scan}
-use Rattle.walk.specs.declared.Step.{Step}
-use Rattle.walk.specs.declared.Step.TheVariants.{Next, Fault}
-use Rattle.walk.specs.declared.Walked.{Walked}
-use Rattle.walk.specs.declared.Walked.TheVariants.{Ended, Faulted}
+use Rattle.std.specs.Prelude.{Result, Ok, Err}
+use Rattle.refusal.specs.declared.Refusal.{Refusal}
+use Rattle.refusal.specs.declared.Refusal.TheVariants.{ImageGap}
+use Rattle.refusal.specs.Refusals.{number}
+use Rattle.walk.specs.declared.Fault.{Fault}
 use Rattle.walk.specs.Judging.{gap_of, opened_of, next_image}
-use Rattle.walk.specs.Walk.{walk_of}
-use Rattle.walk.proofs.Judging.{next-image-number}
-use Rattle.walk.proofs.Walk.{walk-number}
+use Rattle.walk.specs.Walk.{faulted, walk_of}
+use Rattle.walk.proofs.Judging.{next-image-fault, header-faults}
+use Rattle.walk.proofs.Walk.{fault-is, walk-number}
 use Rattle.recovery_walk.specs.Images.{entered, image_walk, Found, walked, filled_of, behind, images}
 
 -- a walk that was accepted has one last state, and one list of segments
@@ -38,19 +39,19 @@ module _ (area : List ℕ) (c s e : ℕ) (r : ImageRow) (w : Scan) where
   -- ---- one image
 
   -- the fault that stands before it
-  pub image-refused : (n : ℕ) → next_image w r.size ≡ Fault n → image_walk area c s e r w ≡ Faulted n w
+  pub image-refused : (n : Refusal) → next_image w r.size ≡ Err n → image_walk area c s e r w ≡ faulted n w
   unfolding image_walk
-  image-refused n h = ap (λ (o : Step). entered w o (walk_of (image_of area c r) s e)) h
+  image-refused n h = ap (λ (o : Result Scan Refusal). entered w o (walk_of (image_of area c r) s e)) h
 
   -- its records from its front on
-  pub image-entered : (v : Scan) → next_image w r.size ≡ Next v → image_walk area c s e r w ≡ walk_of (image_of area c r) s e v
+  pub image-entered : (v : Scan) → next_image w r.size ≡ Ok v → image_walk area c s e r w ≡ walk_of (image_of area c r) s e v
   unfolding image_walk
-  image-entered v h = ap (λ (o : Step). entered w o (walk_of (image_of area c r) s e)) h
+  image-entered v h = ap (λ (o : Result Scan Refusal). entered w o (walk_of (image_of area c r) s e)) h
 
   -- 16: an image of size above 0 directly after one of size 0
-  pub image-gapped : gap_of w r.size ≡ true → image_walk area c s e r w ≡ Faulted 16 w
+  pub image-gapped : gap_of w r.size ≡ true → image_walk area c s e r w ≡ faulted ImageGap w
   unfolding next_image
-  image-gapped h = image-refused 16 (simp h)
+  image-gapped h = image-refused ImageGap (simp h)
 
   -- no gap
   pub image-calm : gap_of w r.size ≡ false → image_walk area c s e r w ≡ walk_of (image_of area c r) s e (opened_of w r.size)
@@ -58,28 +59,29 @@ module _ (area : List ℕ) (c s e : ℕ) (r : ImageRow) (w : Scan) where
   image-calm h = image-entered (opened_of w r.size) (simp h)
 
   -- a fault of an image is 16 to 20
-  pub image-number : (n : ℕ) (v : Scan) → image_walk area c s e r w ≡ Faulted n v → WalkFault n
+  pub image-number : (n : Refusal) (v : Scan) → image_walk area c s e r w ≡ faulted n v → WalkFault (number n)
   image-number n v q = go (next_image w r.size) refl
     where
-      go : (o : Step) → next_image w r.size ≡ o → WalkFault n
-      go (Fault m) h =
-          let is : m ≡ n = cc (image-refused m h) in
-          let at = next-image-number w r.size m h in
+      go : (o : Result Scan Refusal) → next_image w r.size ≡ o → WalkFault (number n)
+      go (Err m) h =
+          let is : m ≡ n = ap (λ (f : Fault). f.refusal) (fault-is (sym (image-refused m h) ∙ q)) in
+          let at : number n ≡ 16 = ap number (sym is ∙ next-image-fault w r.size m h) in
           record { low = omega arith; high = omega arith }
-      go (Next d) h =
-          let f = walk-number (length (image_of area c r)) (header_at (image_of area c r)) s e d v n (sym (image-entered d h) ∙ q) in
+      go (Ok d) h =
+          let f = walk-number (length (image_of area c r)) (header_at (image_of area c r)) s e (header-faults (image_of area c r)) d v n
+          (sym (image-entered d h) ∙ q) in
           record { low = omega (arith, f.low); high = f.high }
 
   -- ---- the first image of some
 
   module _ (rs : List ImageRow) where
     -- a fault of the first image
-    pub images-fault : (n : ℕ) (v : Scan) → image_walk area c s e r w ≡ Faulted n v → images area c s e (r ∷ rs) w ≡ refused n
+    pub images-fault : (f : Fault) → image_walk area c s e r w ≡ Err f → images area c s e (r ∷ rs) w ≡ refused (number f.refusal)
     unfolding images
-    images-fault n v t = simp t
+    images-fault f t = simp t
 
     -- its end: its segment, and the images behind it
-    pub images-next : (d : Scan) → image_walk area c s e r w ≡ Ended d
+    pub images-next : (d : Scan) → image_walk area c s e r w ≡ Ok d
         → images area c s e (r ∷ rs) w ≡ behind (filled_of r d ∷ []) (images area c s e rs d)
     unfolding images
     images-next d t = simp t
@@ -89,8 +91,8 @@ module _ (area : List ℕ) (c s e : ℕ) (r : ImageRow) (w : Scan) where
       pub state : Scan
       pub later : List Segment
       pub calm : gap_of w r.size ≡ false
-      pub ended : walk_of (image_of area c r) s e (opened_of w r.size) ≡ Ended state
-      pub image : image_walk area c s e r w ≡ Ended state
+      pub ended : walk_of (image_of area c r) s e (opened_of w r.size) ≡ Ok state
+      pub image : image_walk area c s e r w ≡ Ok state
       pub on : images area c s e rs state ≡ walked d later
       pub segments : hs ≡ filled_of r state ∷ later
 
@@ -103,12 +105,12 @@ module _ (area : List ℕ) (c s e : ℕ) (r : ImageRow) (w : Scan) where
         tail m (refused k) t = zero-is-not-one (cc)
         tail m (done (x, xs)) t = let same = walked_same t in (xs, ap (λ (y : Scan). walked y xs) same.0, sym same.1)
 
-        go : (o : Walked) → image_walk area c s e r w ≡ o → FirstWalked d hs
-        go (Faulted k v) t = zero-is-not-one (cc (images-fault k v t))
-        go (Ended m) t =
+        go : (o : Result Scan Fault) → image_walk area c s e r w ≡ o → FirstWalked d hs
+        go (Err f) t = refused-is-not-done (sym (images-fault f t) ∙ q)
+        go (Ok m) t =
             let x = tail m (images area c s e rs m) (sym (images-next m t) ∙ q) in
             let calm : gap_of w r.size ≡ false =
-            by-test (gap_of w r.size) (λ h. zero-is-not-one (cc (image-gapped h))) (λ h. h) in
+            by-test (gap_of w r.size) (λ h. zero-is-not-one (cc (sym (image-gapped h) ∙ t))) (λ h. h) in
             record {
               state = m;
               later = x.0;
@@ -130,8 +132,9 @@ unfolding images
 images-number area c s e [] w n q = zero-is-not-one (cc)
 images-number area c s e (r ∷ rs) w n q = go (image_walk area c s e r w) refl (λ d z. images-number area c s e rs d n z)
   where
-    go : (o : Walked) → image_walk area c s e r w ≡ o → ((d : Scan) → images area c s e rs d ≡ refused n → WalkFault n) → WalkFault n
-    go (Faulted k v) t ih =
-        let is : k ≡ n = cc (images-fault area c s e r w rs k v t) in
-        image-number area c s e r w n v (rw is at t)
-    go (Ended d) t ih = ih d (behind-refused (filled_of r d ∷ []) (images area c s e rs d) n (sym (images-next area c s e r w rs d t) ∙ q))
+    go : (o : Result Scan Fault) → image_walk area c s e r w ≡ o → ((d : Scan) → images area c s e rs d ≡ refused n → WalkFault n)
+        → WalkFault n
+    go (Err f) t ih =
+        let is : number f.refusal ≡ n = refused-injective (sym (images-fault area c s e r w rs f t) ∙ q) in
+        subst WalkFault is (image-number area c s e r w f.refusal f.scan t)
+    go (Ok d) t ih = ih d (behind-refused (filled_of r d ∷ []) (images area c s e rs d) n (sym (images-next area c s e r w rs d t) ∙ q))

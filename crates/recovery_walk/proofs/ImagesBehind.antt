@@ -7,18 +7,20 @@ use Prim.Native.Nat.{ℕ}
 use lib.ListN.{length}
 use Rattle.lists.specs.Outcome.{refused}
 use Rattle.lists.proofs.Bools.{zero-is-not-one}
+use Rattle.lists.proofs.Outcome.{refused-injective}
 use Rattle.record.specs.Record.{header_at}
 use Rattle.segment.specs.declared.Segment.{Segment}
 use Rattle.segment.specs.declared.ImageRow.{ImageRow}
 use Rattle.segment.specs.Segment.{image_of}
 use Rattle.walk.specs.declared.Scan.{Scan}
-use Rattle.walk.specs.declared.Step.{Step}
-use Rattle.walk.specs.declared.Step.TheVariants.{Next, Fault}
-use Rattle.walk.specs.declared.Walked.{Walked}
-use Rattle.walk.specs.declared.Walked.TheVariants.{Ended, Faulted}
+use Rattle.std.specs.Prelude.{Result, Ok, Err}
+use Rattle.refusal.specs.declared.Refusal.{Refusal}
+use Rattle.refusal.specs.Refusals.{number}
+use Rattle.walk.specs.declared.Fault.{Fault}
 use Rattle.walk.specs.Judging.{goes_on, more_of, opened_of, next_image}
 use Rattle.walk.proofs.Judging.{more-stopped, gap-stopped, opened-goes, going-unfound, next-image-going}
-use Rattle.walk.proofs.Walk.{walk_end, walk-fault-going}
+use Rattle.walk.proofs.Walk.{fault-is, walk_end, walk-fault-going}
+use Rattle.walk.specs.Walk.{faulted}
 use Rattle.recovery_walk.specs.Images.{image_walk, walked, filled_of, behind, images}
 use Rattle.recovery_walk.specs.Rows.{Pen, pen_with, rows_in, rows_all}
 use Rattle.recovery_walk.specs.Promised.{FaultUpToE, RefusedUpToE}
@@ -38,7 +40,7 @@ module _ (area : List ℕ) (c s e : ℕ) where
   none_here r w h = more-stopped (opened_of w r.size) (length (image_of area c r)) (opened-goes w r.size ∙ h)
 
   -- so its walk ends where it began
-  image-behind : (r : ImageRow) (w : Scan) → goes_on w ≡ false → image_walk area c s e r w ≡ Ended (opened_of w r.size)
+  image-behind : (r : ImageRow) (w : Scan) → goes_on w ≡ false → image_walk area c s e r w ≡ Ok (opened_of w r.size)
   image-behind r w h =
       image-calm area c s e r w (gap-stopped w r.size h)
       ∙ walk_end (length (image_of area c r)) (header_at (image_of area c r)) s e (opened_of w r.size) (none_here r w h)
@@ -108,14 +110,14 @@ module _ (area : List ℕ) (c s e : ℕ) where
 -- ---- a fault of the walk
 
 -- in an image, or before it, a fault stands where the walk goes on
-image-going : (area : List ℕ) (c s e : ℕ) (r : ImageRow) (w v : Scan) (n : ℕ) → image_walk area c s e r w ≡ Faulted n v → goes_on v ≡ true
+image-going : (area : List ℕ) (c s e : ℕ) (r : ImageRow) (w v : Scan) (n : Refusal) → image_walk area c s e r w ≡ faulted n v → goes_on v ≡ true
 image-going area c s e r w v n q = by (next_image w r.size) refl
   where
-    by : (o : Step) → next_image w r.size ≡ o → goes_on v ≡ true
-    by (Fault m) h =
-        let same : w ≡ v = cc (image-refused area c s e r w m h) in
+    by : (o : Result Scan Refusal) → next_image w r.size ≡ o → goes_on v ≡ true
+    by (Err m) h =
+        let same : w ≡ v = ap (λ (f : Fault). f.scan) (fault-is (sym (image-refused area c s e r w m h) ∙ q)) in
         rw (← same) (next-image-going w r.size m h)
-    by (Next d) h =
+    by (Ok d) h =
         walk-fault-going (length (image_of area c r)) (header_at (image_of area c r)) s e d v n (sym (image-entered area c s e r w d h) ∙ q)
 
 -- A FAULT STANDS UP TO e
@@ -124,11 +126,9 @@ unfolding images
 refused-up-to-e area c s e [] w n q = zero-is-not-one (cc)
 refused-up-to-e area c s e (r ∷ rs) w n q = go (image_walk area c s e r w) refl (λ d z. refused-up-to-e area c s e rs d n z)
   where
-    go : (o : Walked) → image_walk area c s e r w ≡ o → ((d : Scan) → images area c s e rs d ≡ refused n → FaultUpToE area c s e rs d n)
+    go : (o : Result Scan Fault) → image_walk area c s e r w ≡ o → ((d : Scan) → images area c s e rs d ≡ refused n → FaultUpToE area c s e rs d n)
         → FaultUpToE area c s e (r ∷ rs) w n
-    go (Faulted k v) t ih =
-        let is : k ≡ n = cc (images-fault area c s e r w rs k v t) in
-        let fault : image_walk area c s e r w ≡ Faulted n v = t ∙ ap (λ (j : ℕ). Faulted j v) is in
+    go (Err f) t ih =
         record {
           front = [];
           at = r;
@@ -137,11 +137,13 @@ refused-up-to-e area c s e (r ∷ rs) w n q = go (image_walk area c s e r w) ref
           before = w;
           segs = [];
           good = refl;
-          there = v;
-          fault = fault;
-          unread = going-unfound v (image-going area c s e r w v n fault);
+          there = f.scan;
+          why = f.refusal;
+          fault = t;
+          told = refused-injective (sym (images-fault area c s e r w rs f t) ∙ q);
+          unread = going-unfound f.scan (image-going area c s e r w f.scan f.refusal t);
         }
-    go (Ended d) t ih =
+    go (Ok d) t ih =
         let f = ih d (behind-refused (filled_of r d ∷ []) (images area c s e rs d) n (sym (images-next area c s e r w rs d t) ∙ q)) in
         record {
           front = r ∷ f.front;
@@ -152,6 +154,8 @@ refused-up-to-e area c s e (r ∷ rs) w n q = go (image_walk area c s e r w) ref
           segs = filled_of r d ∷ f.segs;
           good = images-next area c s e r w f.front d t ∙ ap (behind (filled_of r d ∷ [])) f.good;
           there = f.there;
+          why = f.why;
           fault = f.fault;
+          told = f.told;
           unread = f.unread;
         }

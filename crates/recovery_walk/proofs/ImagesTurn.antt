@@ -16,13 +16,15 @@ use Rattle.segment.specs.declared.Segment.{Segment}
 use Rattle.segment.specs.Segment.{no_segment, image_of, no_row}
 use Rattle.segment.specs.declared.ImageRow.{ImageRow}
 use Rattle.walk.specs.declared.Scan.{Scan}
-use Rattle.walk.specs.declared.Step.TheVariants.{Next}
-use Rattle.walk.specs.declared.Walked.{Walked}
-use Rattle.walk.specs.declared.Walked.TheVariants.{Ended, Faulted}
+use Rattle.std.specs.Prelude.{Ok, Err, Result}
+use Rattle.refusal.specs.declared.Refusal.{Refusal}
+use Rattle.refusal.specs.Refusals.{number, outcome}
+use Rattle.recovery_walk.specs.declared.Scanned.{Scanned}
+use Rattle.walk.specs.declared.Fault.{Fault}
 use Rattle.walk.specs.Judging.{start_of, next_image}
 use Rattle.walk.specs.Walk.{walk_of}
 use Rattle.recovery_walk.specs.Images.{image_walk, Found, walked, filled_of, behind, images, row_at}
-use Rattle.recovery_walk.specs.Scan.{scanned_of, settled_of}
+use Rattle.recovery_walk.specs.Scan.{scanned_of}
 use Rattle.recovery_walk.proofs.Images.{image-entered, images-fault, images-next}
 
 -- no segments in front change nothing
@@ -44,7 +46,7 @@ pub part-image : (area : List ℕ) (c : ℕ) (r : ImageRow) → part_of area c r
 part-image area c r = ap (λ (m : ℕ). take m (drop (r.slot * c) area)) (add-sub_cancel_left (r.slot * c) r.size)
 
 -- its walk from the front on is that of the row's image
-pub image-by-part : (area : List ℕ) (c s e : ℕ) (r : ImageRow) (w v : Scan) (o : Walked) → next_image w r.size ≡ Next v
+pub image-by-part : (area : List ℕ) (c s e : ℕ) (r : ImageRow) (w v : Scan) (o : Result Scan Fault) → next_image w r.size ≡ Ok v
     → walk_of (part_of area c r) s e v ≡ o → image_walk area c s e r w ≡ o
 image-by-part area c s e r w v o h q =
     image-entered area c s e r w v h ∙ ap (λ (l : List ℕ). walk_of l s e v) (sym (part-image area c r)) ∙ q
@@ -52,13 +54,6 @@ image-by-part area c s e r w v o h q =
 -- it is as long as the row says
 pub part-size : (area : List ℕ) (c : ℕ) (r : ImageRow) → r.slot * c + r.size ≤ length area → length (part_of area c r) ≡ r.size
 part-size area c r h = ap length (part-image area c r) ∙ part_length (r.slot * c) r.size area h
-
--- the first rows from the i-th on
-pub rows-from : (rows : List ImageRow) (count i : ℕ) → count ≤ 64 → length rows ≡ 64 → i < count
-    → drop i (take count rows) ≡ row_at rows i ∷ drop (suc i) (take count rows)
-rows-from rows count i few all more =
-    drop-cons (take count rows) i no_row (rw length-take (omega arith))
-    ∙ ap (λ (r : ImageRow). r ∷ drop (suc i) (take count rows)) (get_or-take count rows i no_row more)
 
 -- the entries of no segment from a later place on
 pub zeros-later : (i j : ℕ) (gs : List Segment) → i ≤ j → j ≤ 64 → drop i gs ≡ replicate (64 - i) no_segment
@@ -72,79 +67,61 @@ zeros-later i j gs h g e =
     ∙ drop_at (zeros (j - i)) (zeros (64 - j)) (j - i) (length-replicate (j - i) no_segment)
 
 -- what holds at the head of the images' loop
-pub record AtImages (area : List ℕ) (c count s e : ℕ) (rows : List ImageRow) (segs : List Segment) (scan : Scan) (fault i : ℕ)
-    : Type 0 where
-  pub upto : i ≤ count
+pub record AtImages (area : List ℕ) (c s e : ℕ) (rows : List ImageRow) (segs : List Segment) (scan : Scan) (i : ℕ) : Type 0 where
+  pub upto : i ≤ length rows
   pub long : length segs ≡ 64
-  pub none : fault ≡ 0
   pub rest : drop i segs ≡ replicate (64 - i) no_segment
-  pub so_far : images area c s e (take count rows) start_of ≡ behind (take i segs) (images area c s e (drop i (take count rows)) scan)
+  pub so_far : images area c s e rows start_of ≡ behind (take i segs) (images area c s e (drop i rows) scan)
 
--- what holds at the head of the records' loop: the records from where it began come to what those from here on come to
-pub record AtRecords (img : List ℕ) (s e : ℕ) (scan₀ scan : Scan) (fault₀ fault : ℕ) : Type 0 where
-  pub calm : fault ≡ fault₀
-  pub so_far : walk_of img s e scan₀ ≡ walk_of img s e scan
-
-module _ (area : List ℕ) (c count s e : ℕ) (rows : List ImageRow) (few : count ≤ 64) (all : length rows ≡ 64) where
+module _ (area : List ℕ) (c s e : ℕ) (rows : List ImageRow) where
   abbrev goal : Outcome Found
-  goal = images area c s e (take count rows) start_of
+  goal = images area c s e rows start_of
 
   -- before the first image
-  pub at_first : AtImages area c count s e rows (replicate 64 no_segment) start_of 0 0
+  pub at_first : AtImages area c s e rows (replicate 64 no_segment) start_of 0
   at_first =
       record {
         upto = omega arith;
         long = length-replicate 64 no_segment;
-        none = refl;
         rest = refl;
         so_far = behind-nil goal;
       }
 
-  -- a refusal is settled
-  pub settled-bad : (fault : ℕ) (w : Scan) (segs : List Segment) → (fault ≡ 0 → ⊥) → refused fault ≡ goal
-      → settled_of fault w segs ≡ scanned_of goal
-  settled-bad fault w segs z q = rw (ne_eqb _ _ z) (ap scanned_of q)
-
-  module _ (segs : List Segment) (scan : Scan) (fault i : ℕ) (h : AtImages area c count s e rows segs scan fault i) where
-    -- the loop is left at its test: the last state, and the segments with no entry behind them
-    pub settled-good : count ≤ i → settled_of fault scan segs ≡ scanned_of goal
+  module _ (few : length rows ≤ 64) (segs : List Segment) (scan : Scan) (i : ℕ) (h : AtImages area c s e rows segs scan i) where
+    -- the loop's end: the last state, and the segments with no entry behind them
+    pub turns-end : length rows ≤ i → done (record { scan = scan; segs = segs }) ≡ scanned_of goal
     unfolding images
-    settled-good g =
-        let same : i ≡ count = omega (arith, h.upto) in
-        let all-gone : drop i (take count rows) ≡ [] = drop_of_length-le (take count rows) {i = i} (rw (length-take, same) (omega arith)) in
+    turns-end g =
+        let all-gone : drop i rows ≡ [] = drop_of_length-le rows {i = i} g in
         let ended : goal ≡ walked scan (take i segs) = h.so_far ∙ rw (all-gone, append-nil) refl in
-        let long : length (take i segs) ≡ i = rw length-take (omega (arith, h.long)) in
+        let long : length (take i segs) ≡ i = rw length-take (omega (arith, h.long, h.upto)) in
         let entries : segs ≡ take i segs ++ replicate (64 - length (take i segs)) no_segment =
         sym (take-append-drop i segs)
         ∙ ap (λ (l : List Segment). take i segs ++ l) (h.rest ∙ ap (λ (x : ℕ). replicate (64 - x) no_segment) (sym long)) in
-        rw (eq-eqb _ _ h.none)
-        (ap (λ (l : List Segment). record { fault = 0; scan = scan; segs = l }) entries ∙ sym (ap scanned_of ended))
+        ap (λ (l : List Segment). done (record { scan = scan; segs = l })) entries ∙ sym (ap scanned_of ended)
 
-    module _ (more : i < count) where
+    module _ (more : i < length rows) where
       abbrev row : ImageRow
       row = row_at rows i
 
       abbrev later : List ImageRow
-      later = drop (suc i) (take count rows)
+      later = drop (suc i) rows
 
       turn : goal ≡ behind (take i segs) (images area c s e (row ∷ later) scan)
-      turn =
-          h.so_far
-          ∙ ap (λ (l : List ImageRow). behind (take i segs) (images area c s e l scan)) (rows-from rows count i few all more)
+      turn = h.so_far ∙ ap (λ (l : List ImageRow). behind (take i segs) (images area c s e l scan)) (drop-cons rows i no_row more)
 
       -- a fault in the image, or before it
-      pub turn-fault : (m : ℕ) (v : Scan) → image_walk area c s e row scan ≡ Faulted m v → refused m ≡ goal
-      turn-fault m v r = sym (turn ∙ ap (behind (take i segs)) (images-fault area c s e row scan later m v r))
+      pub turn-fault : (f : Fault) → image_walk area c s e row scan ≡ Err f → refused (number f.refusal) ≡ scanned_of goal
+      turn-fault f r = ap scanned_of (sym (turn ∙ ap (behind (take i segs)) (images-fault area c s e row scan later f r)))
 
       -- the image's end
-      pub turn-next : (d : Scan) (g : Segment) (fault' : ℕ) → g ≡ filled_of row d → image_walk area c s e row scan ≡ Ended d
-          → fault' ≡ fault → AtImages area c count s e rows (set segs i g) d fault' (i + 1)
-      turn-next d g fault' f r z =
+      pub turn-next : (d : Scan) (g : Segment) → g ≡ filled_of row d → image_walk area c s e row scan ≡ Ok d
+          → AtImages area c s e rows (set segs i g) d (i + 1)
+      turn-next d g f r =
           let at : i < length segs = omega (arith, h.long) in
           record {
             upto = omega arith;
             long = length-set segs i g ∙ h.long;
-            none = z ∙ h.none;
             rest =
                 rw add-one
                 (drop-set-lt (suc i) segs i g (omega arith) ∙ zeros-later i (suc i) segs (omega arith) (omega arith) h.rest);

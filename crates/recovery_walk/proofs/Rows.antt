@@ -17,11 +17,10 @@ use Rattle.lists.proofs.Until.{until-again, until_stop, until-keeps}
 use Rattle.lists.proofs.Splice.{splice-fits, splice-none, splice_front, splice-inside, splice-behind, splice-length}
 use Rattle.segment.specs.declared.ImageRow.{ImageRow}
 use Rattle.walk.specs.declared.Scan.{Scan}
-use Rattle.walk.specs.declared.Step.{Step}
-use Rattle.walk.specs.declared.Step.TheVariants.{Next, Fault}
+use Rattle.std.specs.Prelude.{Result, Ok, Err}
+use Rattle.refusal.specs.declared.Refusal.{Refusal}
 use Rattle.record.specs.Record.{header_at}
 use Rattle.walk.specs.Judging.{live_of, more_of, record_step}
-use Rattle.walk.specs.declared.Walked.TheVariants.{Ended}
 use Rattle.walk.specs.Walk.{walk_of}
 use Rattle.segment.specs.Segment.{image_of}
 use Rattle.recovery_walk.specs.Rows.{row_of, Pen, pen_with, moved_of, pen_by, pen_turn, rows_in, rows_all, RowPut}
@@ -32,17 +31,17 @@ module _ (img : List ℕ) (slot s e : ℕ) where
   -- a turn's ways, for whatever they show
   pen-ways : {P : Type 0} (w : Pen) (t : Turn Pen Pen) → pen_turn img slot s e w ≡ t
       → (more_of w.scan (length img) ≡ false → t ≡ stop w → P)
-      → ((n : ℕ) → more_of w.scan (length img) ≡ true → record_step img s e w.scan ≡ Fault n → t ≡ stop w → P)
-      → ((d : Scan) → more_of w.scan (length img) ≡ true → record_step img s e w.scan ≡ Next d → t ≡ again (moved_of slot s e w d) → P)
+      → ((n : Refusal) → more_of w.scan (length img) ≡ true → record_step img s e w.scan ≡ Err n → t ≡ stop w → P)
+      → ((d : Scan) → more_of w.scan (length img) ≡ true → record_step img s e w.scan ≡ Ok d → t ≡ again (moved_of slot s e w d) → P)
       → P
   unfolding pen_turn
   pen-ways {P} w t q end fault next = go (more_of w.scan (length img)) (record_step img s e w.scan) refl refl q
     where
-      go : (b : Bool) (o : Step) → more_of w.scan (length img) ≡ b → record_step img s e w.scan ≡ o
+      go : (b : Bool) (o : Result Scan Refusal) → more_of w.scan (length img) ≡ b → record_step img s e w.scan ≡ o
           → pick b (pen_by slot s e w o) (stop w) ≡ t → P
       go false o l m q = end l (sym q)
-      go true (Fault n) l m q = fault n l m (sym q)
-      go true (Next d) l m q = next d l m (sym q)
+      go true (Err n) l m q = fault n l m (sym q)
+      go true (Ok d) l m q = next d l m (sym q)
 
   moved-scan : (w : Pen) (d : Scan) → (moved_of slot s e w d).scan ≡ d
   unfolding moved_of
@@ -67,14 +66,14 @@ module _ (img : List ℕ) (slot s e : ℕ) where
   rows_end w h = until_stop (pen_turn img slot s e) (λ v. v) (λ v. length img - v.scan.pos) falls w w (simp h)
 
   -- a good record: the words with its row, from the next state on
-  pub rows_next : (w : Pen) (d : Scan) → more_of w.scan (length img) ≡ true → record_step img s e w.scan ≡ Next d
+  pub rows_next : (w : Pen) (d : Scan) → more_of w.scan (length img) ≡ true → record_step img s e w.scan ≡ Ok d
       → rows_in img slot s e w ≡ rows_in img slot s e (moved_of slot s e w d)
   unfolding rows_in pen_turn
   rows_next w d h m =
       until-again (pen_turn img slot s e) (λ v. v) (λ v. length img - v.scan.pos) falls w (moved_of slot s e w d) (simp (h, m))
 
   -- a fault ends the rows
-  pub rows-fault : (w : Pen) (n : ℕ) → more_of w.scan (length img) ≡ true → record_step img s e w.scan ≡ Fault n
+  pub rows-fault : (w : Pen) (n : Refusal) → more_of w.scan (length img) ≡ true → record_step img s e w.scan ≡ Err n
       → rows_in img slot s e w ≡ w
   unfolding rows_in pen_turn
   rows-fault w n h m = until_stop (pen_turn img slot s e) (λ v. v) (λ v. length img - v.scan.pos) falls w w (simp (h, m))
@@ -105,7 +104,7 @@ module _ (img : List ℕ) (slot s e : ℕ) where
           (λ d h m q. zero-is-not-one (cc))
 
   -- where the walk ends with the image, the pass ends in the same state
-  pub rows-scan : (w d : Scan) → walk_of img s e w ≡ Ended d → (ws : List ℕ)
+  pub rows-scan : (w d : Scan) → walk_of img s e w ≡ Ok d → (ws : List ℕ)
       → rows_in img slot s e (pen_with ws w) ≡ pen_with (rows_in img slot s e (pen_with ws w)).words d
   unfolding moved_of
   rows-scan w d q ws =

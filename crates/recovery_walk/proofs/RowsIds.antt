@@ -19,8 +19,8 @@ use Rattle.segment.specs.declared.Segment.{Segment}
 use Rattle.segment.specs.declared.ImageRow.{ImageRow}
 use Rattle.segment.specs.Segment.{image_of}
 use Rattle.walk.specs.declared.Scan.{Scan}
-use Rattle.walk.specs.declared.Step.TheVariants.{Next}
-use Rattle.walk.specs.declared.Walked.TheVariants.{Ended}
+use Rattle.std.specs.Prelude.{Result, Ok}
+use Rattle.refusal.specs.declared.Refusal.{Refusal}
 use Rattle.walk.specs.Judging.{live_of, judge_of, advanced_of, more_of, record_step, opened_of, start_of}
 use Rattle.walk.specs.Walk.{walk_of}
 use Rattle.walk.proofs.Judging.{went, follows_is, follows-later}
@@ -115,7 +115,7 @@ record Stepped (s e : ℕ) (w d : Scan) : Type 0 where
   pub start : d.found_s ≡ w.found_s || eqb d.last s
   pub end : d.found_e ≡ w.found_e || eqb d.last e
 
-stepped : (size s e : ℕ) (w : Scan) (h : HeaderAnswer) (d : Scan) → judge_of size s e w h ≡ Next d → Stepped s e w d
+stepped : (size s e : ℕ) (w : Scan) (h : Result RecordHeader Refusal) (d : Scan) → judge_of size s e w h ≡ Ok d → Stepped s e w d
 unfolding advanced_of
 stepped size s e w h d m =
     let g = went size s e w h d m in
@@ -195,7 +195,7 @@ module _ (s e : ℕ) (some : 0 < s) (w d : Scan) (m : Stepped s e w d) (ws : Lis
               rw (row-dead (live_of s e d.last) d.last slot off len dead, append-nil) (h.none ea (omega (arith, m.later)))
 
 -- an image that is walked to its end keeps it, with the image's rows
-sound-image : (img : List ℕ) (slot s e : ℕ) → 0 < s → (w d : Scan) → walk_of img s e w ≡ Ended d → (ws : List ℕ) → Sound s e w ws
+sound-image : (img : List ℕ) (slot s e : ℕ) → 0 < s → (w d : Scan) → walk_of img s e w ≡ Ok d → (ws : List ℕ) → Sound s e w ws
     → Sound s e d (rows_in img slot s e (pen_with ws w)).words
 unfolding moved_of
 sound-image img slot s e some = walk-keeps (length img) (header_at img) s e Keeps next end
@@ -203,7 +203,7 @@ sound-image img slot s e some = walk-keeps (length img) (header_at img) s e Keep
     Keeps : Scan → Scan → Type 0
     Keeps w d = (ws : List ℕ) → Sound s e w ws → Sound s e d (rows_in img slot s e (pen_with ws w)).words
 
-    next : (w d z : Scan) → more_of w (length img) ≡ true → record_step img s e w ≡ Next d → Keeps d z → Keeps w z
+    next : (w d z : Scan) → more_of w (length img) ≡ true → record_step img s e w ≡ Ok d → Keeps d z → Keeps w z
     next w d z h m on ws k =
         rw (rows_next img slot s e (pen_with ws w) d h m)
         (on _ (sound-step s e some w d (stepped (length img) s e w (header_at img w.pos) d m) ws slot d.body d.len k))

@@ -7,15 +7,16 @@ use Prim.Native.Nat.{ℕ, suc, ◌+◌, ◌-◌, ◌≤◌, ◌<◌}
 use native.Mathlib.Numerals.{add-one}
 use native.Mathlib.Omega.{arith}
 use lib.ListN.{length, take, drop, length-take, length-append, take-append-drop, drop_of_length-le}
-use lib.Seq.{drop-drop, length-take-le}
+use lib.Seq.{drop-cons, drop-drop, length-take-le}
+use Rattle.segment.specs.Segment.{no_row}
 use Rattle.segment.specs.declared.ImageRow.{ImageRow}
 use Rattle.walk.specs.declared.Scan.{Scan}
-use Rattle.walk.specs.declared.Step.TheVariants.{Next}
+use Rattle.std.specs.Prelude.{Ok}
 use Rattle.walk.specs.Judging.{live_of, more_of, record_step, opened_of}
 use Rattle.recovery_walk.specs.Images.{row_at}
 use Rattle.recovery_walk.specs.Rows.{row_of, Pen, pen_with, pen_of, moved_of, rows_in, rows_all, RowPut}
 use Rattle.recovery_walk.proofs.Rows.{rows_next, rows_grow, all-grow, put-long, put-take, put-drop}
-use Rattle.recovery_walk.proofs.ImagesTurn.{part_of, part-image, rows-from}
+use Rattle.recovery_walk.proofs.ImagesTurn.{part_of, part-image}
 
 -- the words that stand in the index before `at`, and a state
 abbrev pub pen_at : List ℕ → ℕ → Scan → Pen
@@ -31,13 +32,13 @@ pub record AtRows (img : List ℕ) (slot s e : ℕ) (index₀ : List ℕ) (at₀
   pub so_far : rows_in img slot s e (pen_at index₀ at₀ scan₀) ≡ rows_in img slot s e (pen_at index at scan)
 
 -- what holds at the head of the images' loop
-pub record AtAll (area : List ℕ) (c count s e : ℕ) (rows : List ImageRow) (index₀ index : List ℕ) (at : ℕ) (scan : Scan) (i : ℕ)
+pub record AtAll (area : List ℕ) (c s e : ℕ) (rows : List ImageRow) (index₀ index : List ℕ) (at : ℕ) (scan : Scan) (i : ℕ)
     : Type 0 where
-  pub upto : i ≤ count
+  pub upto : i ≤ length rows
   pub long : length index ≡ length index₀
   pub within : at ≤ length index
   pub kept : drop at index ≡ drop at index₀
-  pub so_far : rows_all area c s e (take count rows) pen_of ≡ rows_all area c s e (drop i (take count rows)) (pen_at index at scan)
+  pub so_far : rows_all area c s e rows pen_of ≡ rows_all area c s e (drop i rows) (pen_at index at scan)
 
 -- lists that agree from a place on agree from a later one on
 pub drop-later : (l m : List ℕ) (a b : ℕ) → a ≤ b → drop a l ≡ drop a m → drop b l ≡ drop b m
@@ -48,7 +49,7 @@ drop-later l m a b h e =
 
 module _ (img : List ℕ) (slot s e : ℕ) (index₀ : List ℕ) (at₀ : ℕ) (scan₀ : Scan) (index : List ℕ) (at : ℕ) (scan : Scan)
     (h : AtRows img slot s e index₀ at₀ scan₀ index at scan) (d : Scan) (going : more_of scan (length img) ≡ true)
-    (step : record_step img s e scan ≡ Next d) (live : Bool) (is : live ≡ live_of s e d.last) where
+    (step : record_step img s e scan ≡ Ok d) (live : Bool) (is : live ≡ live_of s e d.last) where
   to : rows_in img slot s e (pen_at index₀ at₀ scan₀) ≡ rows_in img slot s e (moved_of slot s e (pen_at index at scan) d)
   to = h.so_far ∙ rows_next img slot s e (pen_at index at scan) d going step
 
@@ -79,33 +80,32 @@ module _ (img : List ℕ) (slot s e : ℕ) (index₀ : List ℕ) (at₀ : ℕ) (
         so_far = rw (put-take index at _ m r room put, is) to;
       }
 
-module _ (area : List ℕ) (c count s e : ℕ) (rows : List ImageRow) (index₀ index : List ℕ) (at : ℕ) (scan : Scan) (i : ℕ) (few : count ≤ 64)
-    (all : length rows ≡ 64) (h : AtAll area c count s e rows index₀ index at scan i) where
+module _ (area : List ℕ) (c s e : ℕ) (rows : List ImageRow) (index₀ index : List ℕ) (at : ℕ) (scan : Scan) (i : ℕ)
+    (h : AtAll area c s e rows index₀ index at scan i) where
   abbrev total : List ℕ
-  total = rows_all area c s e (take count rows) pen_of
+  total = rows_all area c s e rows pen_of
 
   -- the end: all words stand at the front, and the rest of the index is as it was
-  pub rows-done : count ≤ i → index ≡ total ++ drop (length total) index₀
+  pub rows-done : length rows ≤ i → index ≡ total ++ drop (length total) index₀
   unfolding rows_all
   rows-done g =
-      let same : i ≡ count = omega (arith, h.upto) in
       let is : total ≡ take at index =
       h.so_far
       ∙ ap (λ (l : List ImageRow). rows_all area c s e l (pen_at index at scan))
-      (drop_of_length-le (take count rows) {i = i} (rw length-take (omega arith))) in
+      (drop_of_length-le rows {i = i} g) in
       let size : at ≡ length total = sym (ap length is ∙ length-take-le at index h.within) in
       rw (← size, is) (sym (take-append-drop at index) ∙ ap (λ (l : List ℕ). take at index ++ l) h.kept)
 
-  module _ (more : i < count) (from : Scan) (is : from ≡ opened_of scan (row_at rows i).size) where
+  module _ (more : i < length rows) (from : Scan) (is : from ≡ opened_of scan (row_at rows i).size) where
     abbrev row : ImageRow
     row = row_at rows i
 
-    turn : total ≡ rows_all area c s e (drop (suc i) (take count rows)) (rows_in (part_of area c row) row.slot s e (pen_at index at from))
+    turn : total ≡ rows_all area c s e (drop (suc i) rows) (rows_in (part_of area c row) row.slot s e (pen_at index at from))
     unfolding rows_all
     turn =
         h.so_far
         ∙ ap (λ (l : List ImageRow). rows_all area c s e l (pen_at index at scan))
-        (rows-from rows count i few all more)
+        (drop-cons rows i no_row more)
         ∙ rw (part-image, is) refl
 
     -- room for all words is room for the image's
@@ -114,19 +114,19 @@ module _ (area : List ℕ) (c count s e : ℕ) (rows : List ImageRow) (index₀ 
     image-room l =
         omega (
           arith,
-          all-grow area c s e (drop (suc i) (take count rows)) (rows_in (part_of area c row) row.slot s e (pen_at index at from)),
+          all-grow area c s e (drop (suc i) rows) (rows_in (part_of area c row) row.slot s e (pen_at index at from)),
           ap length turn,
           h.long,
         )
 
     -- an image's turn
     pub image-next : (m : List ℕ) (r : ℕ) (d : Scan) → AtRows (part_of area c row) row.slot s e index at from m r d
-        → rows_in (part_of area c row) row.slot s e (pen_at m r d) ≡ pen_at m r d → AtAll area c count s e rows index₀ m r d (i + 1)
+        → rows_in (part_of area c row) row.slot s e (pen_at m r d) ≡ pen_at m r d → AtAll area c s e rows index₀ m r d (i + 1)
     image-next m r d g q =
         record {
           upto = omega arith;
           long = g.long ∙ h.long;
           within = g.upto;
           kept = g.kept ∙ drop-later index index₀ at r g.later h.kept;
-          so_far = rw add-one (turn ∙ ap (rows_all area c s e (drop (suc i) (take count rows))) (g.so_far ∙ q));
+          so_far = rw add-one (turn ∙ ap (rows_all area c s e (drop (suc i) rows)) (g.so_far ∙ q));
         }

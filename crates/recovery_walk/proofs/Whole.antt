@@ -17,8 +17,7 @@ use Rattle.segment.specs.declared.Segment.{Segment}
 use Rattle.segment.specs.declared.ImageRow.{ImageRow}
 use Rattle.segment.specs.Segment.{image_of}
 use Rattle.walk.specs.declared.Scan.{Scan}
-use Rattle.walk.specs.declared.Step.TheVariants.{Next}
-use Rattle.walk.specs.declared.Walked.TheVariants.{Ended}
+use Rattle.std.specs.Prelude.{Result, Ok}
 use Rattle.walk.specs.Judging.{live_of, goes_on, more_of, gap_of, record_step, advanced_of, opened_of}
 use Rattle.walk.specs.Walk.{walk_of}
 use Rattle.walk.proofs.Judging.{went, follows_is, live-over, more-inside-goes, more-ended, more-stopped, going-unfound, stopped-found, opened-goes}
@@ -84,7 +83,7 @@ module _ (s e : ℕ) (some : 0 < e) (order : s ≤ e) where
 
   module _ (img : List ℕ) (slot : ℕ) where
     -- one record behind e
-    past_one : (v : Pen) (d : Scan) → e ≤ v.scan.last → record_step img s e v.scan ≡ Next d → Past v (moved_of slot s e v d)
+    past_one : (v : Pen) (d : Scan) → e ≤ v.scan.last → record_step img s e v.scan ≡ Ok d → Past v (moved_of slot s e v d)
     unfolding moved_of advanced_of
     past_one v d l m =
         let w : Scan = v.scan in
@@ -134,12 +133,12 @@ module _ (s e : ℕ) (some : 0 < e) (order : s ≤ e) where
     -- the walk that stops at e beside the whole one, from v to z
     pub record Beside (v z : Pen) : Type 0 where
       pub x : Pen
-      pub walk : walk_of img s e v.scan ≡ Ended x.scan
+      pub walk : walk_of img s e v.scan ≡ Ok x.scan
       pub rows : rows_in img slot s e v ≡ x
       pub rest : ((goes_on x.scan ≡ true) × (x ≡ z)) ⊎ Stopped x z
 
     -- a record after which the walk stops is e's
-    stop-here : (v : Pen) (d : Scan) → goes_on v.scan ≡ true → record_step img s e v.scan ≡ Next d → goes_on d ≡ false
+    stop-here : (v : Pen) (d : Scan) → goes_on v.scan ≡ true → record_step img s e v.scan ≡ Ok d → goes_on d ≡ false
         → (d.last ≡ e) × (d.max ≡ e) × (d.min ≡ 0 → ⊥)
     unfolding advanced_of
     stop-here v d g m off =

@@ -1,12 +1,11 @@
 -- "The headers walked": which bytes of the area a scan reads, by the places in the area of the headers that the walk comes to; none is
 -- behind e's record. proofs/Headers.antt shows that a scan depends on the twelve bytes at these places and on no other byte. Assumes nothing.
-use Rattle.std.specs.Prelude.{◌≡◌, List, [], ◌∷◌, true, ℕ, ◌+◌, ◌*◌, length}
+use Rattle.std.specs.Prelude.{◌≡◌, List, [], ◌∷◌, true, ℕ, ◌+◌, ◌*◌, length, Ok}
 use Rattle.lists.specs.Splice.{part}
 use Rattle.record.specs.Record.{header_at}
 use Rattle.segment.specs.declared.ImageRow.{ImageRow}
 use Rattle.segment.specs.Segment.{image_of}
 use Rattle.walk.specs.declared.Scan.{Scan}
-use Rattle.walk.specs.declared.Walked.TheVariants.{Ended}
 use Rattle.walk.specs.Judging.{gap_of, opened_of}
 use Rattle.walk.specs.Headers.{EachHeader}
 use Rattle.recovery_walk.specs.Images.{image_walk}
@@ -23,7 +22,7 @@ pub data EachWalked (P : ℕ → Type 0) (area : List ℕ) (c s e : ℕ) : List 
   gap-over : {r : ImageRow} {rs : List ImageRow} {w : Scan} → gap_of w r.size ≡ true → EachWalked P area c s e (r ∷ rs) w
   -- the headers of an image, and those of the images behind it where the walk goes on
   image-here : {r : ImageRow} {rs : List ImageRow} {w : Scan} → EachInRow P area c s e r (opened_of w r.size)
-      → ((d : Scan) → image_walk area c s e r w ≡ Ended d → EachWalked P area c s e rs d)
+      → ((d : Scan) → image_walk area c s e r w ≡ Ok d → EachWalked P area c s e rs d)
       → EachWalked P area c s e (r ∷ rs) w
 
 -- the twelve bytes at a place are the same in two areas

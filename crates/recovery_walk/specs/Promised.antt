@@ -3,11 +3,13 @@
 use Rattle.std.specs.Prelude.{◌≡◌, ◌⊎◌, List, ◌∷◌, ◌++◌, true, false, ℕ, ◌+◌, ◌≤◌, ◌<◌, length}
 use Rattle.lists.specs.Outcome.{refused}
 use Rattle.lists.specs.Splice.{splice}
+use Rattle.refusal.specs.declared.Refusal.{Refusal}
+use Rattle.refusal.specs.Refusals.{number}
 use Rattle.segment.specs.declared.Segment.{Segment}
 use Rattle.segment.specs.declared.ImageRow.{ImageRow}
 use Rattle.walk.specs.declared.Scan.{Scan}
-use Rattle.walk.specs.declared.Walked.TheVariants.{Faulted}
 use Rattle.walk.specs.Judging.{start_of}
+use Rattle.walk.specs.Walk.{faulted}
 use Rattle.recovery_walk.specs.Images.{image_walk, walked, images}
 use Rattle.recovery_walk.specs.Rows.{rows_all, pen_of, RowIds}
 use Rattle.recovery_walk.specs.Scan.{live_count, scan_of, index_of}
@@ -23,7 +25,9 @@ pub record FaultUpToE (area : List ℕ) (c s e : ℕ) (rows : List ImageRow) (w 
   pub segs : List Segment
   pub good : images area c s e front w ≡ walked before segs
   pub there : Scan
-  pub fault : image_walk area c s e at before ≡ Faulted n there
+  pub why : Refusal
+  pub fault : image_walk area c s e at before ≡ faulted why there
+  pub told : number why ≡ n
   pub unread : there.found_e ≡ false
 
 -- "Refusals 16 to 20 speak only of what stands up to e": where the walk is refused, the fault stands before e's record

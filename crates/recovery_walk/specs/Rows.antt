@@ -1,14 +1,13 @@
 -- The index rows: "each live record gives one index row of four u64: id, slot, payload offset in the slot, length". They are those of
 -- the same steps as the walk's. Laws: proofs/. Assumes nothing.
-use Rattle.std.specs.Prelude.{List, [], ◌∷◌, ◌++◌, Bool, ◌≡◌, ℕ, ◌+◌, ◌-◌, ◌*◌, ◌<◌, length, get_or}
+use Rattle.std.specs.Prelude.{List, [], ◌∷◌, ◌++◌, Bool, ◌≡◌, ℕ, ◌+◌, ◌-◌, ◌*◌, ◌<◌, length, get_or, Result, Ok, Err}
 use Rattle.lists.specs.Choice.{pick}
 use Rattle.lists.specs.Splice.{splice}
 use Rattle.lists.specs.Until.{Turn, again, stop, until}
+use Rattle.refusal.specs.declared.Refusal.{Refusal}
 use Rattle.segment.specs.declared.ImageRow.{ImageRow}
 use Rattle.segment.specs.Segment.{image_of}
 use Rattle.walk.specs.declared.Scan.{Scan}
-use Rattle.walk.specs.declared.Step.{Step}
-use Rattle.walk.specs.declared.Step.TheVariants.{Next, Fault}
 use Rattle.walk.specs.Judging.{live_of, more_of, record_step, start_of, opened_of}
 
 -- a live record's four words; no word of another
@@ -33,9 +32,9 @@ unfoldable pub moved_of : (slot s e : ℕ) → Pen → Scan → Pen
 moved_of slot s e v d = pen_with (v.words ++ row_of (live_of s e d.last) d.last slot d.body d.len) d
 
 -- a step as a turn of the rows' pass
-abbrev pub pen_by : (slot s e : ℕ) → Pen → Step → Turn Pen Pen
-pen_by slot s e v (Next d) = again (moved_of slot s e v d)
-pen_by slot s e v (Fault n) = stop v
+abbrev pub pen_by : (slot s e : ℕ) → Pen → Result Scan Refusal → Turn Pen Pen
+pen_by slot s e v (Ok d) = again (moved_of slot s e v d)
+pen_by slot s e v (Err r) = stop v
 
 -- one turn
 unfoldable pub pen_turn : List ℕ → (slot s e : ℕ) → Pen → Turn Pen Pen

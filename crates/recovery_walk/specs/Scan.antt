@@ -1,8 +1,10 @@
 -- What a scan of the sorted rows' images comes to: 16 to 20 from the walk, then 21, 22 and 23; and the index afterwards.
 -- Assumes nothing.
-use Rattle.std.specs.Prelude.{◌≡◌, List, [], ◌∷◌, ◌++◌, not, ℕ, ◌+◌, ◌-◌, ◌*◌, ◌≤◌, ◌<◌, length, take, drop, replicate, ltb, eqb}
-use Rattle.lists.specs.Choice.{pick, ◌⇒◌, first}
+use Rattle.std.specs.Prelude.{◌≡◌, List, [], ◌∷◌, ◌++◌, not, ℕ, ◌+◌, ◌-◌, ◌*◌, ◌≤◌, ◌<◌, length, drop, replicate, ltb, Result}
+use Rattle.lists.specs.Choice.{◌⇒◌, first}
 use Rattle.lists.specs.Outcome.{Outcome, refused, done, either, kept}
+use Rattle.refusal.specs.declared.Refusal.{Refusal}
+use Rattle.refusal.specs.Refusals.{outcome}
 use Rattle.segment.specs.declared.Segment.{Segment}
 use Rattle.segment.specs.Segment.{no_segment}
 use Rattle.segment.specs.declared.ImageRow.{ImageRow}
@@ -34,15 +36,13 @@ judged s e words o = either refused (judged_as s e words) o
 unfoldable pub scan_of : List ℕ → (c s e : ℕ) → List ImageRow → ℕ → Outcome Found
 scan_of area c s e rows words = judged s e words (images area c s e rows start_of)
 
--- the code's answer: beside a fault's number stand the start state and no segment; the entries behind the segments are zero
-abbrev pub scanned_of : Outcome Found → Scanned
-scanned_of o =
-    either (λ n. record { fault = n; scan = start_of; segs = replicate 64 no_segment })
-    (λ a. record { fault = 0; scan = a.0; segs = a.1 ++ replicate (64 - length a.1) no_segment }) o
+-- what was found, as the code holds it: the entries behind the segments are zero
+abbrev pub entries_of : Found → Scanned
+entries_of a = record { scan = a.0; segs = a.1 ++ replicate (64 - length a.1) no_segment }
 
--- the answer from the number of the first fault, 0 where there is none, the last state and the 64 entries
-abbrev pub settled_of : ℕ → Scan → List Segment → Scanned
-settled_of fault w segs = pick (eqb fault 0) (record { fault = 0; scan = w; segs = segs }) (scanned_of (refused fault))
+-- the code's answer
+abbrev pub scanned_of : Outcome Found → Outcome Scanned
+scanned_of o = either refused (λ a. done (entries_of a)) o
 
 -- the index afterwards: untouched by a refusal; else the words, and "later words of the index keep their content"
 unfoldable pub index_of : List ℕ → Outcome Found → List ℕ → List ℕ
@@ -53,7 +53,7 @@ pub record RangePre (s e : ℕ) : Type 0 where
   pub some : 0 < s
   pub order : s ≤ e
 
--- what a scan of the first rows ensures: the answer and every word of the index
-pub record ScanDid (area : List ℕ) (c s e count : ℕ) (rows : List ImageRow) (index index' : List ℕ) (r : Scanned) : Type 0 where
-  pub answer : r ≡ scanned_of (scan_of area c s e (take count rows) (length index))
-  pub words : index' ≡ index_of (rows_all area c s e (take count rows) pen_of) (scan_of area c s e (take count rows) (length index)) index
+-- what a scan of the rows ensures: the answer and every word of the index
+pub record ScanDid (area : List ℕ) (c s e : ℕ) (rows : List ImageRow) (index index' : List ℕ) (r : Result Scanned Refusal) : Type 0 where
+  pub answer : outcome r ≡ scanned_of (scan_of area c s e rows (length index))
+  pub words : index' ≡ index_of (rows_all area c s e rows pen_of) (scan_of area c s e rows (length index)) index

@@ -1,11 +1,10 @@
 -- Document 01's walk before document 02's ask 1: over whole images to their ends, wherever e's record stands. It is kept to say that what it
 -- accepted is accepted still, with the same outcome (recovery's `AcceptedStays`). Assumes nothing.
-use Rattle.std.specs.Prelude.{◌≡◌, List, [], ◌∷◌, false, ◌&&◌, ℕ, ◌≤◌, ◌<◌, length, ltb}
+use Rattle.std.specs.Prelude.{◌≡◌, List, [], ◌∷◌, false, ◌&&◌, ℕ, ◌≤◌, ◌<◌, length, ltb, Ok}
 use Rattle.segment.specs.declared.Segment.{Segment}
 use Rattle.segment.specs.declared.ImageRow.{ImageRow}
 use Rattle.segment.specs.Segment.{image_of}
 use Rattle.walk.specs.declared.Scan.{Scan}
-use Rattle.walk.specs.declared.Step.TheVariants.{Next}
 use Rattle.walk.specs.Judging.{record_step, opened_of}
 use Rattle.recovery_walk.specs.Images.{filled_of}
 use Rattle.recovery_walk.specs.Rows.{Pen, pen_with, moved_of}
@@ -15,7 +14,7 @@ pub data WholeImage (img : List ℕ) (slot s e : ℕ) : Pen → Pen → Type 0 w
   -- the image has ended
   whole-end : {v : Pen} → length img ≤ v.scan.pos → WholeImage img slot s e v v
   -- a good record, and those behind it
-  whole-more : {v z : Pen} {d : Scan} → v.scan.pos < length img → record_step img s e v.scan ≡ Next d
+  whole-more : {v z : Pen} {d : Scan} → v.scan.pos < length img → record_step img s e v.scan ≡ Ok d
       → WholeImage img slot s e (moved_of slot s e v d) z → WholeImage img slot s e v z
 
 -- the images of rows are good to their ends, and lead to a state, words and segments
