@@ -15,7 +15,6 @@ use Rattle.segment.specs.Segment.{image_of}
 use Rattle.walk.specs.declared.Scan.{Scan}
 use Rattle.std.specs.Prelude.{Result, Ok, Err}
 use Rattle.refusal.specs.declared.Refusal.{Refusal}
-use Rattle.refusal.specs.Refusals.{number}
 use Rattle.walk.specs.declared.Fault.{Fault}
 use Rattle.walk.specs.Judging.{goes_on, more_of, opened_of, next_image}
 use Rattle.walk.proofs.Judging.{more-stopped, gap-stopped, opened-goes, going-unfound, next-image-going}

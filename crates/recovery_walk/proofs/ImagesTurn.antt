@@ -8,8 +8,7 @@ use native.Mathlib.Numerals.{add-one}
 use native.Mathlib.Omega.{arith}
 use lib.ListN.{length, take, drop, set, replicate, length-set, length-take, length-replicate, replicate-append-replicate}
 use lib.ListN.{take-append-drop, drop_of_length-le}
-use lib.Seq.{drop-cons, drop-drop, drop_at, drop-set-lt, take-suc-set, get_or-take}
-use borrow.Author.Tests.{eq-eqb, ne_eqb}
+use lib.Seq.{drop-cons, drop-drop, drop_at, drop-set-lt, take-suc-set}
 use Rattle.lists.specs.Outcome.{Outcome, refused, done}
 use Rattle.lists.proofs.Splice.{part_length}
 use Rattle.segment.specs.declared.Segment.{Segment}
@@ -17,9 +16,7 @@ use Rattle.segment.specs.Segment.{no_segment, image_of, no_row}
 use Rattle.segment.specs.declared.ImageRow.{ImageRow}
 use Rattle.walk.specs.declared.Scan.{Scan}
 use Rattle.std.specs.Prelude.{Ok, Err, Result}
-use Rattle.refusal.specs.declared.Refusal.{Refusal}
-use Rattle.refusal.specs.Refusals.{number, outcome}
-use Rattle.recovery_walk.specs.declared.Scanned.{Scanned}
+use Rattle.refusal.specs.Refusals.{number}
 use Rattle.walk.specs.declared.Fault.{Fault}
 use Rattle.walk.specs.Judging.{start_of, next_image}
 use Rattle.walk.specs.Walk.{walk_of}

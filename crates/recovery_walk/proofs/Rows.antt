@@ -1,20 +1,21 @@
 -- The laws of the index rows: the three ways of a turn of the second pass, that the words only grow, and one row written to an index.
 -- Assumes nothing.
 use mathlib.Core.Path.{◌≡◌, refl, sym, ap, ◌∙◌}
-use mathlib.Core.List.{List, [], ◌∷◌, ◌++◌, append_assoc}
+use mathlib.Core.List.{List, [], ◌∷◌, ◌++◌}
 use mathlib.Core.Bool.{Bool, true, false}
 use Prim.Native.Nat.{ℕ, ◌+◌, ◌-◌, ◌≤◌, ◌<◌}
-use native.Mathlib.Nat.{le_refl, le_trans, add-zero}
-use native.Mathlib.Numerals.{towards_suc}
+use native.Mathlib.Nat.{le_refl, le_trans, add-zero, add-sub_cancel_left}
 use native.Mathlib.Omega.{arith}
-use lib.ListN.{length, take, drop, set, length-append}
-use lib.Seq.{sets, sets-eq, take-add}
+use lib.ListN.{length, take, drop, length-append}
+use lib.Seq.{take-add}
+use borrow.Rule.Slice.PartMut.{put_mid}
+use Rattle.lists.proofs.SpliceWrites.{part-splice}
 use Rattle.lists.specs.Choice.{pick}
 use Rattle.lists.specs.Splice.{splice}
 use Rattle.lists.proofs.Bools.{zero-is-not-one}
 use Rattle.lists.specs.Until.{Turn, again, stop}
 use Rattle.lists.proofs.Until.{until-again, until_stop, until-keeps}
-use Rattle.lists.proofs.Splice.{splice-fits, splice-none, splice_front, splice-inside, splice-behind, splice-length}
+use Rattle.lists.proofs.Splice.{splice-none, splice_front, splice-inside, splice-behind, splice-length}
 use Rattle.segment.specs.declared.ImageRow.{ImageRow}
 use Rattle.walk.specs.declared.Scan.{Scan}
 use Rattle.std.specs.Prelude.{Result, Ok, Err}
@@ -135,17 +136,16 @@ row-dead t id slot off len h = simp h
 pub room-four : (t : Bool) (id slot off len at n : ℕ) → t ≡ true → at + length (row_of t id slot off len) ≤ n → at + 4 ≤ n
 room-four t id slot off len at n h r = rw (row-live t id slot off len h) at r
 
--- four stores are a row
+-- four words written as one part are a row
 pub put_four : (t : Bool) (id slot off len : ℕ) (l : List ℕ) (at : ℕ) → t ≡ true → at + length (row_of t id slot off len) ≤ length l
-    → RowPut l at (row_of t id slot off len) (set (set (set (set l at id) (at + 1) slot) (at + 2) off) (at + 3) len) (at + 4)
-put_four t id slot off len l at h r =
-    let row : List ℕ = id ∷ slot ∷ off ∷ len ∷ [] in
-    let fits : at + length row ≤ length l = room-four t id slot off len at (length l) h r in
-    let stores : set (set (set (set l at id) (at + 1) slot) (at + 2) off) (at + 3) len ≡ sets l at row = simp towards_suc in
+    → (ws : List ℕ) → ws ≡ id ∷ slot ∷ off ∷ len ∷ [] → RowPut l at (row_of t id slot off len) (put_mid at (at + 4 - at) l ws) (at + 4)
+put_four t id slot off len l at h r ws e =
+    let fits : at + 4 ≤ length l = room-four t id slot off len at (length l) h r in
+    let long : length ws ≡ at + 4 - at = ap length e ∙ sym (add-sub_cancel_left at 4) in
     rw (row-live t id slot off len h)
     (record {
       next = refl;
-      words = stores ∙ sets-eq row l at fits ∙ append_assoc (take at l) row (drop (at + length row) l) ∙ sym (splice-fits at row l fits);
+      words = part-splice at (at + 4 - at) l ws long (omega arith) ∙ ap (λ (ys : List ℕ). splice at ys l) e;
     })
 
 -- no store is no row

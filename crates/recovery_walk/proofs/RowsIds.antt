@@ -13,7 +13,7 @@ use Rattle.lists.specs.Choice.{pick}
 use Rattle.lists.specs.Outcome.{Outcome, refused, done}
 use Rattle.lists.proofs.Bools.{clash, zero-is-not-one}
 use Rattle.lists.proofs.Cases.{by-test, by_order}
-use Rattle.record.specs.declared.HeaderAnswer.{HeaderAnswer}
+use Rattle.record.specs.declared.RecordHeader.{RecordHeader}
 use Rattle.record.specs.Record.{header_at}
 use Rattle.segment.specs.declared.Segment.{Segment}
 use Rattle.segment.specs.declared.ImageRow.{ImageRow}

@@ -6,7 +6,7 @@ use mathlib.Core.Bool.{Bool, true}
 use Prim.Native.Nat.{ℕ, suc, ◌+◌, ◌-◌, ◌≤◌, ◌<◌}
 use native.Mathlib.Numerals.{add-one}
 use native.Mathlib.Omega.{arith}
-use lib.ListN.{length, take, drop, length-take, length-append, take-append-drop, drop_of_length-le}
+use lib.ListN.{length, take, drop, length-append, take-append-drop, drop_of_length-le}
 use lib.Seq.{drop-cons, drop-drop, length-take-le}
 use Rattle.segment.specs.Segment.{no_row}
 use Rattle.segment.specs.declared.ImageRow.{ImageRow}

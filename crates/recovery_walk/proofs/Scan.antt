@@ -5,11 +5,11 @@ use mathlib.Core.List.{List, ◌++◌}
 use mathlib.Core.Bool.{true, false}
 use Prim.Native.Nat.{ℕ, ◌*◌, ◌/◌, ◌≤◌, ◌<◌}
 use native.Mathlib.Omega.{arith}
-use lib.ListN.{length, take, drop}
+use lib.ListN.{length, drop}
 use borrow.Author.Tests.{lt-ltb, le-ltb}
-use Rattle.std.specs.Prelude.{Result, Ok, Err}
+use Rattle.std.specs.Prelude.{Ok, Err}
 use Rattle.lists.specs.Outcome.{Outcome, refused, done}
-use Rattle.lists.proofs.Outcome.{done-injective, refused-is-not-done}
+use Rattle.lists.proofs.Outcome.{done-injective, refused-injective, refused-is-not-done}
 use Rattle.refusal.specs.declared.Refusal.{Refusal}
 use Rattle.refusal.specs.declared.Refusal.TheVariants.{StartNotFound, EndNotFound, IndexShort}
 use Rattle.refusal.specs.Refusals.{number}
@@ -41,7 +41,8 @@ module _ (area : List ℕ) (c s e : ℕ) (rows : List ImageRow) (index : List �
   scan-fault r is = go found refl is
     where
       go : (o : Outcome Found) → found ≡ o → refused (number r) ≡ scanned_of o → ScanDid area c s e rows index index (Err r)
-      go (refused m) q p = scan-refused r (ap (judged s e (length index)) q ∙ sym p)
+      go (refused m) q p = scan-refused r
+          (ap (judged s e (length index)) q ∙ ap (λ (n : ℕ). judged s e (length index) (refused n)) (sym (refused-injective p)))
       go (done a) q p = refused-is-not-done p
 
   -- no fault: the walk went through

@@ -17,7 +17,7 @@ use Rattle.segment.specs.declared.Segment.{Segment}
 use Rattle.segment.specs.declared.ImageRow.{ImageRow}
 use Rattle.segment.specs.Segment.{image_of}
 use Rattle.walk.specs.declared.Scan.{Scan}
-use Rattle.std.specs.Prelude.{Result, Ok}
+use Rattle.std.specs.Prelude.{Ok}
 use Rattle.walk.specs.Judging.{live_of, goes_on, more_of, gap_of, record_step, advanced_of, opened_of}
 use Rattle.walk.specs.Walk.{walk_of}
 use Rattle.walk.proofs.Judging.{went, follows_is, live-over, more-inside-goes, more-ended, more-stopped, going-unfound, stopped-found, opened-goes}

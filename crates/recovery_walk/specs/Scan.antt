@@ -5,10 +5,8 @@ use Rattle.lists.specs.Choice.{◌⇒◌, first}
 use Rattle.lists.specs.Outcome.{Outcome, refused, done, either, kept}
 use Rattle.refusal.specs.declared.Refusal.{Refusal}
 use Rattle.refusal.specs.Refusals.{outcome}
-use Rattle.segment.specs.declared.Segment.{Segment}
 use Rattle.segment.specs.Segment.{no_segment}
 use Rattle.segment.specs.declared.ImageRow.{ImageRow}
-use Rattle.walk.specs.declared.Scan.{Scan}
 use Rattle.walk.specs.Judging.{start_of}
 use Rattle.recovery_walk.specs.declared.Scanned.{Scanned}
 use Rattle.recovery_walk.specs.Images.{Found, images}

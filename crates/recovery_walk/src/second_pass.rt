@@ -21,13 +21,7 @@ fn put_live(index: &mut [u64], at: usize, live: bool, slot: u32, state: Scan) ->
 }
 
 // The rows of the live records of the images.
-pub(crate) fn write_rows(
-    area: &[u8],
-    c: u64,
-    rows: &[ImageRow],
-    range: Range,
-    index: &mut [u64],
-)
+pub(crate) fn write_rows(area: &[u8], c: u64, rows: &[ImageRow], range: Range, index: &mut [u64])
     requires walk_pre { WalkPre area.now c rows.now }
     requires pen_of_in_bounds { length (rows_all area.now c range.s range.e rows.now pen_of) ≤ length index.old }
     ensures { index.new ≡ rows_all area.now c range.s range.e rows.now pen_of
