@@ -2,7 +2,7 @@
 // a refusal comes before anything is changed.
 #![tactic(auto)]
 
-ghost use Rattle.std.specs.Prelude.{◌≡◌, ◌++◌, ◌-◌, ◌≤◌, ◌<◌, take, drop, replicate, true};
+ghost use Rattle.std.specs.Prelude.{◌≡◌, ◌++◌, ◌-◌, ◌≤◌, ◌<◌, length, take, drop, replicate, reverse, take_while, nat_lt, true};
 ghost use Rattle.refusal.specs.Refusals.{outcome};
 ghost use Rattle.seglog.specs.View.{log_of, view_of, plain_of};
 ghost use Rattle.seglog.specs.Fit.{fitting_of};
@@ -43,20 +43,18 @@ enum Look {
     Nothing,
 }
 
-// How many leading segments have a max below n; never all of them.
-fn leading(segs: [Segment; 64], count: usize, n: u64) -> usize
-    requires { count ≤ 64 }
-    ensures { (result ≤ count) × (drop_old n (take count segs) ≡ drop result (take count segs)) }
+// How many leading segments have a max below n.
+fn below(segs: &[Segment], n: u64) -> usize
+    ensures { result ≡ length (take_while (λ g. nat_lt g.max n) segs.now) }
 {
-    let mut i: usize = 0;
-    while i + 1 < count {
-        let g = segs[i];
-        if n <= g.max {
-            return i;
-        }
-        i += 1;
-    }
-    i
+    segs.iter().take_while(|g| g.max < n).count()
+}
+
+// How many of them go; never all segments.
+fn leading(segs: &[Segment], n: u64) -> usize
+    ensures { (result ≤ length segs.now) × (drop_old n segs.now ≡ drop result segs.now) }
+{
+    below(segs, n).min(segs.len().saturating_sub(1))
 }
 
 // The first `left` entries, with zeros behind them.
@@ -65,11 +63,7 @@ fn cleared(segs: [Segment; 64], left: usize) -> [Segment; 64]
     ensures { result ≡ (take left segs ++ replicate (64 - left) no_segment) }
 {
     let mut out = segs;
-    let mut i: usize = 0;
-    while i < 64 - left {
-        out[left + i] = segment::no_segment();
-        i += 1;
-    }
+    out[left..].fill(segment::no_segment());
     out
 }
 
@@ -79,28 +73,22 @@ fn shifted(segs: [Segment; 64], first: usize) -> [Segment; 64]
     ensures { result ≡ (drop first segs ++ replicate first no_segment) }
 {
     let mut out = segs;
-    let mut i: usize = 0;
-    while i < 64 - first {
-        out[i] = segs[first + i];
-        i += 1;
-    }
+    out.copy_within(first.., 0);
     cleared(out, 64 - first)
 }
 
-// How many segments are left when the trailing ones with a min above n go.
-fn remaining(segs: [Segment; 64], count: usize, n: u64) -> usize
-    requires { count ≤ 64 }
-    ensures { (result ≤ count) × (drop_new n (take count segs) ≡ take result segs) }
+// How many trailing segments have a min above n.
+fn above(segs: &[Segment], n: u64) -> usize
+    ensures { result ≡ length (take_while (λ g. nat_lt n g.min) (reverse segs.now)) }
 {
-    let mut left = count;
-    while 0 < left {
-        let g = segs[left - 1];
-        if g.min <= n {
-            return left;
-        }
-        left -= 1;
-    }
-    0
+    segs.iter().rev().take_while(|g| n < g.min).count()
+}
+
+// How many segments are left when these go.
+fn remaining(segs: &[Segment], n: u64) -> usize
+    ensures { (result ≤ length segs.now) × (drop_new n segs.now ≡ take result segs.now) }
+{
+    segs.len() - above(segs, n)
 }
 
 // What the header at a place of an image tells of the record n. A payload past the image is no record, whose ever it is.
@@ -201,8 +189,7 @@ fn started(log: Log, n: u64) -> Log
     requires { plain_of log ≡ true }
     ensures { result ≡ log_of (started_at (view_of log) n (drop_old n (view_of log).segs)) }
 {
-    let segs = log.segs;
-    let first = leading(segs, log.count, n);
+    let first = leading(&log.segs[..log.count], n);
     Log {
         k: log.k,
         c: log.c,
@@ -210,7 +197,7 @@ fn started(log: Log, n: u64) -> Log
         start: n,
         end: log.end,
         count: log.count - first,
-        segs: shifted(segs, first),
+        segs: shifted(log.segs, first),
     }
 }
 
@@ -219,11 +206,9 @@ fn ended(log: Log, left: usize, n: u64, newest: Newest) -> Log
     requires { (0 < left) × (left ≤ 64) }
     ensures { result ≡ ended_log log left n newest }
 {
-    let all = log.segs;
-    let mut segs = cleared(all, left);
-    let at = left - 1;
-    let g = segs[at];
-    segs[at] = segment::ended_at(g, n, newest.at, newest.end);
+    let mut segs = cleared(log.segs, left);
+    let head = left - 1;
+    segs[head] = segment::ended_at(segs[head], n, newest.at, newest.end);
     Log {
         k: log.k,
         c: log.c,
@@ -256,9 +241,8 @@ pub fn prune_recent(log: Log, area: &mut [u8], new_end_live: u64) -> Result<Log,
     let Early::Onward = early else {
         return Ok(settled(log, early));
     };
-    let segs = log.segs;
-    let left = remaining(segs, log.count, new_end_live);
-    let head = segs[left - 1];
+    let left = remaining(&log.segs[..log.count], new_end_live);
+    let head = log.segs[left - 1];
     let from = (head.slot as u64 * log.c) as usize;
     let to = from + head.size as usize;
     let newest = cut_in(head, &area[from..to], new_end_live)?;

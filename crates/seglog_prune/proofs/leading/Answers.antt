@@ -1,25 +1,16 @@
--- `seglog_prune::leading` meets its contract: each turn passes a segment that goes.
+-- `seglog_prune::leading` meets its contract: those whose max is below go, but for the last of all.
 -- Assumes nothing.
-use mathlib.Core.Path.{refl}
-use Rattle.seglog_prune.proofs.Drop.{leads-next, leads-stop, leads-end}
-use borrow.Author.Rules.{rules}
+use mathlib.Core.Path.{◌≡◌, ◌∙◌}
+use native.Mathlib.Omega.{arith}
+use lib.Dec.{ltb}
+use Rattle.std.proofs.lemmas.List.Folds.{length-prefix_len}
+use Rattle.segment.specs.declared.Segment.{Segment}
+use Rattle.seglog_prune.proofs.Drop.{below, old-leading}
 use Rattle.seglog_prune.proofs.leading.Goals as goal
-
-pub loop-i-init : goal.loop-i-init
-loop-i-init c =
-    record { long = search rules; within = search rules; so_far = refl }
-
-pub returns-then-n-g : goal.returns-then-n-g
-returns-then-n-g c =
-    let l = c.loop-i in
-    (search rules, leads-stop _ _ _ c.requires l.i l.invariant (search rules) c.if-n-g.true)
-
-pub loop-i-preserved : goal.loop-i-preserved
-loop-i-preserved c =
-    let l = c.loop-i in
-    leads-next _ _ _ c.requires l.i l.invariant (search rules) c.if-n-g.false
 
 pub returns : goal.returns
 returns c =
-    let l = c.loop-i in
-    (l.invariant.within, leads-end _ _ _ c.requires l.i l.invariant (search rules))
+    let a = c.args in
+    let many : c.below.result ≡ below a.n a.segs.now =
+    c.below.ensures ∙ length-prefix_len (λ (g : Segment). ltb g.max a.n) a.segs.now in
+    (omega arith, old-leading a.n a.segs.now c.min.result (omega arith))

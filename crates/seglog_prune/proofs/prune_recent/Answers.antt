@@ -6,6 +6,7 @@ use Prim.Native.Nat.{ℕ, ◌+◌, ◌-◌, ◌*◌, ◌^◌, ◌≤◌, ◌<◌
 use native.Mathlib.Nat.{le_trans}
 use native.Mathlib.Omega.{arith}
 use lib.ListN.{length, get_or, take, drop, length-take}
+use lib.Seq.{take-take}
 use Rattle.segment.proofs.Cut.{truncated-padded}
 use Rattle.segment.specs.declared.Segment.{Segment}
 use Rattle.segment.specs.Segment.{no_segment, image_in}
@@ -49,18 +50,20 @@ take_within b l h = omega (arith, length-take b l)
 staying : (c : After-remaining-left) → Staying c.args.log c.args.area.now c.args.new_end_live c.remaining-left.result
 staying c =
     let long_of : length c.args.log.segs ≡ 64 = search (rules, unmapped) in
+    let l = c.args.log in
+    let fewer : c.remaining-left.result ≤ l.count = omega (arith, c.remaining-left.ensures.0, length-take l.count l.segs) in
     record {
       long = long_of;
       onward = ap Ok (sym c.in-Onward.is) ∙ sym c.in_ok-early.was ∙ c.decide_early.ensures;
-      few = c.remaining-left.ensures.0;
-      kept = c.remaining-left.ensures.1;
+      few = fewer;
+      kept = c.remaining-left.ensures.1 ∙ take-take c.remaining-left.result l.count l.segs fewer;
     }
 
 some : (c : After-remaining-left) → 0 < c.remaining-left.result
 some c = left-some _ _ _ _ (staying c)
 
 few : (c : After-remaining-left) → c.remaining-left.result ≤ 64
-few c = le_trans c.remaining-left.ensures.0 (few-entries _ _ _ _ (staying c))
+few c = le_trans (staying c).few (few-entries _ _ _ _ (staying c))
 
 pub returns-in_err-early : goal.returns-in_err-early
 returns-in_err-early c =
@@ -74,8 +77,8 @@ returns-in_default c =
     let both = recent-settled c.args.log c.args.area.now c.args.new_end_live long_of _ (sym c.in_ok-early.was ∙ c.decide_early.ensures)
     c.in_default.not-Onward in record { answer = ap accepted c.settled.ensures ∙ both.0; bytes = both.1 }
 
-pub remaining-left-requires : goal.remaining-left-requires
-remaining-left-requires c =
+pub shared_ref_as_front-remaining : goal.shared_ref_as_front-remaining
+shared_ref_as_front-remaining c =
     let a = c.args in
     let onward-here : Ok Onward ≡ early_log a.log a.area.now a.new_end_live =
     ap Ok (sym c.in-Onward.is) ∙ sym c.in_ok-early.was ∙ c.decide_early.ensures in
@@ -105,14 +108,14 @@ pub overflow_sub-head : goal.overflow_sub-head
 overflow_sub-head c =
     some c
 
-pub offset_bounds-segs-left : goal.offset_bounds-segs-left
-offset_bounds-segs-left c =
-    let k = (goal.at.offset_bounds-segs-left c).After-remaining-left in
+pub offset_bounds-log-left : goal.offset_bounds-log-left
+offset_bounds-log-left c =
+    let k = (goal.at.offset_bounds-log-left c).After-remaining-left in
     entry-fits (left_below (some k) (few k))
 
-pub bounds-segs-left : goal.bounds-segs-left
-bounds-segs-left c =
-    let k = (goal.at.bounds-segs-left c).After-remaining-left in
+pub bounds-log-left : goal.bounds-log-left
+bounds-log-left c =
+    let k = (goal.at.bounds-log-left c).After-remaining-left in
     left_below (some k) (few k)
 
 pub overflow_mul-from : goal.overflow_mul-from

@@ -1,30 +1,19 @@
--- `seglog_prune::remaining` meets its contract: each turn passes a segment that goes.
+-- `seglog_prune::remaining` meets its contract: those at the back whose min is above go.
 -- Assumes nothing.
-use mathlib.Core.Path.{refl, ◌∙◌}
+use mathlib.Core.Path.{◌≡◌, ap, sym, ◌∙◌}
+use mathlib.Core.List.{reverse}
+use Prim.Native.Nat.{ℕ, ◌-◌}
 use native.Mathlib.Omega.{arith}
-use Rattle.seglog_prune.proofs.Drop.{new-on, new-stay, new_none}
-use borrow.Author.Rules.{rules}
+use lib.ListN.{length, take}
+use lib.Dec.{ltb}
+use Rattle.std.proofs.lemmas.List.Folds.{length-prefix_len}
+use Rattle.segment.specs.declared.Segment.{Segment}
+use Rattle.seglog_prune.proofs.Drop.{above, new-trailing}
 use Rattle.seglog_prune.proofs.remaining.Goals as goal
-
-pub loop-left-init : goal.loop-left-init
-loop-left-init c =
-    record { long = search rules; within = search rules; so_far = refl }
-
-pub returns-then-g-n : goal.returns-then-g-n
-returns-then-g-n c =
-    let l = c.loop-left in
-    (search rules, l.invariant.so_far ∙ new-stay _ _ l.left (search rules) (omega (arith, l.invariant.long, l.invariant.within)) c.if-g-n.true)
-
-pub loop-left-preserved : goal.loop-left-preserved
-loop-left-preserved c =
-    let l = c.loop-left in
-    record {
-      long = l.invariant.long;
-      within = search rules;
-      so_far = l.invariant.so_far ∙ new-on _ _ l.left (search rules) (omega (arith, l.invariant.long, l.invariant.within)) c.if-g-n.false;
-    }
 
 pub returns : goal.returns
 returns c =
-    let l = c.loop-left in
-    (search rules, l.invariant.so_far ∙ new_none _ _ l.left (search rules))
+    let a = c.args in
+    let many : c.above.result ≡ above a.n (reverse a.segs.now) =
+    c.above.ensures ∙ length-prefix_len (λ (g : Segment). ltb a.n g.min) (reverse a.segs.now) in
+    (omega arith, new-trailing a.n a.segs.now ∙ ap (λ (k : ℕ). take (length a.segs.now - k) a.segs.now) (sym many))
