@@ -1,11 +1,10 @@
-mod Bounds
-pub mod Copy
 pub mod TablePlain
 pub mod TablePlacing
 pub mod TableArranged
+pub mod Entries
 pub mod Reading
 pub mod ReadingGroups
 pub mod ReadingWhole
-pub mod Unique
 pub mod ReadingParts
 pub mod ReadingDepends
+pub mod Unique

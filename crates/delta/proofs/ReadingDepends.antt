@@ -10,20 +10,18 @@ use lib.Dec.{ltb}
 use native.Mathlib.Omega.{arith}
 use borrow.Author.Tests.{le-leb}
 use Rattle.lists.specs.Choice.{pick}
-use Rattle.lists.specs.Outcome.{refused, done}
+use Rattle.lists.specs.Outcome.{Outcome, refused, done}
 use Rattle.lists.proofs.Outcome.{refused-is-not-done}
 use Rattle.lists.specs.Splice.{part}
 use Rattle.lists.proofs.Splice.{part-front}
-use Rattle.little_endian.specs.LittleEndian.{le_at, number_at, u32_at}
-use Rattle.little_endian.specs.declared.U32At.{U32At}
-use Rattle.little_endian.specs.declared.U32At.TheVariants.{Value, Short}
+use Rattle.little_endian.specs.LittleEndian.{le_at, number_at}
 use Rattle.little_endian.proofs.LittleEndian.{le-agree}
 use Rattle.delta.specs.Reading.{Got, Got.short, Got.got, Reading, Reading.ends, Reading.row, erase_at, reinstate_at, entered}
-use Rattle.delta.specs.Reading.{counted, group, reinstates, reading, walk, answered, decoded_of}
+use Rattle.delta.specs.Reading.{onward, group, reinstates, reading, walk, answered, decoded_of}
 use Rattle.delta.specs.Promised.{DecodeDepends}
 use Rattle.delta.specs.declared.Row.{Row}
-use Rattle.delta.proofs.ReadingGroups.{u32-inside}
-use Rattle.delta.proofs.ReadingParts.{end_of, accepted-good, erase-is, reinstate-is}
+use Rattle.delta.proofs.Entries.{number-inside, erase-is, reinstate-is}
+use Rattle.delta.proofs.ReadingParts.{end_of, accepted-good}
 
 -- a group that is read to an accepted end at n begins before n, and where two inputs give the same rows up to n, they give the same reading
 group-kept : (at at' : ℕ → Got) (n : ℕ) → ((p : ℕ) (r : Row) (q : ℕ) → at p ≡ got r q → p ≤ q)
@@ -60,7 +58,7 @@ group-inside at size n g (suc k) p next h f e = go (at p) refl e (λ q l. group-
 -- no more bytes are consumed than there are
 consumed-inside : (most : ℕ) (s : List ℕ) (n : ℕ) → end_of (reading most s) ≡ done n → n ≤ length s
 unfolding reading reinstates
-consumed-inside most s n e = first (u32_at s 0) refl e
+consumed-inside most s n e = first (number_at 4 s 0) refl e
   where
     last : (p : ℕ) → p ≤ length s → end_of (ends (done p)) ≡ done n → n ≤ length s
     last p h e = let q : p ≡ n = cc in omega arith
@@ -72,24 +70,24 @@ consumed-inside most s n e = first (u32_at s 0) refl e
         group-inside (reinstate_at s) (length s) n (λ p r q y. let g = reinstate-is s p r q y in let a = g.0 in let b = g.2 in omega
         arith) m (p + 4) (λ q. ends (done q)) h last e
 
-    second : (k p : ℕ) (w : U32At) → w ≡ u32_at s p
-        → end_of (counted w (λ m. pick (ltb most (k + m)) (ends (refused 41)) (group (reinstate_at s) m (p + 4) (λ q. ends (done q)))))
+    second : (k p : ℕ) (w : Outcome ℕ) → w ≡ number_at 4 s p
+        → end_of (onward w (λ m. pick (ltb most (k + m)) (ends (refused 41)) (group (reinstate_at s) m (p + 4) (λ q. ends (done q)))))
         ≡ done n → n ≤ length s
-    second k p Short q e = refused-is-not-done e
-    second k p (Value m) q e = inner k p m (ltb most (k + m)) (u32-inside s p (Value m) m q refl) e
+    second k p (refused x) q e = refused-is-not-done e
+    second k p (done m) q e = inner k p m (ltb most (k + m)) (number-inside s p 4 m q) e
 
     outer : (k : ℕ) (b : Bool) → 0 + 4 ≤ length s → end_of (pick b (ends (refused 41)) (group (erase_at s) k 4 (λ p. reinstates most s k p)))
         ≡ done n → n ≤ length s
     outer k true h e = refused-is-not-done e
     outer k false h e =
         group-inside (erase_at s) (length s) n (λ p r q y. let g = erase-is s p r q y in let a = g.0 in let b = g.2 in omega arith) k 4
-        (λ p. reinstates most s k p) (omega arith) (λ p l z. second k p (u32_at s p) refl z) e
+        (λ p. reinstates most s k p) (omega arith) (λ p l z. second k p (number_at 4 s p) refl z) e
 
-    first : (w : U32At) → w ≡ u32_at s 0
-        → end_of (counted w (λ k. pick (ltb most k) (ends (refused 41)) (group (erase_at s) k 4 (λ p. reinstates most s k p)))) ≡ done n
+    first : (w : Outcome ℕ) → w ≡ number_at 4 s 0
+        → end_of (onward w (λ k. pick (ltb most k) (ends (refused 41)) (group (erase_at s) k 4 (λ p. reinstates most s k p)))) ≡ done n
         → n ≤ length s
-    first Short q e = refused-is-not-done e
-    first (Value k) q e = outer k (ltb most k) (u32-inside s 0 (Value k) k q refl) e
+    first (refused x) q e = refused-is-not-done e
+    first (done k) q e = outer k (ltb most k) (number-inside s 0 4 k q) e
 
 -- two inputs that agree on their first n bytes
 module _ (s s' : List ℕ) (n : ℕ) (agree : take n s ≡ take n s') (l : n ≤ length s) (l' : n ≤ length s') where
@@ -102,8 +100,8 @@ module _ (s s' : List ℕ) (n : ℕ) (agree : take n s ≡ take n s') (l : n ≤
   same_number : (p : ℕ) → p + 4 ≤ n → le_at 4 s p ≡ le_at 4 s' p
   same_number p h = le-agree 4 s s' p (λ j a b. same_byte j (omega arith))
 
-  same_count : (p : ℕ) → p + 4 ≤ n → u32_at s p ≡ u32_at s' p
-  unfolding u32_at number_at
+  same_count : (p : ℕ) → p + 4 ≤ n → number_at 4 s p ≡ number_at 4 s' p
+  unfolding number_at
   same_count p h = rw (le-leb (p + 4) (length s) (omega arith), le-leb (p + 4) (length s') (omega arith), same_number p h)
 
   erase-kept : (p : ℕ) (r : Row) (q : ℕ) → erase_at s p ≡ got r q → q ≤ n → erase_at s' p ≡ got r q
@@ -128,12 +126,12 @@ module _ (s s' : List ℕ) (n : ℕ) (agree : take n s ≡ take n s') (l : n ≤
 
   reinstates-kept : (most k p : ℕ) → end_of (reinstates most s k p) ≡ done n → (p ≤ n) × (reinstates most s k p ≡ reinstates most s' k p)
   unfolding reinstates
-  reinstates-kept most k p e = second (u32_at s p) refl e
+  reinstates-kept most k p e = second (number_at 4 s p) refl e
     where
       behind : (p : ℕ) → end_of (ends (done p)) ≡ done n → (p ≤ n) × (◌≡◌ {A = Reading} (ends (done p)) (ends (done p)))
       behind p e = let q : p ≡ n = cc in (omega arith, refl)
 
-      inner : (m : ℕ) (b : Bool) → Value m ≡ u32_at s p → ltb most (k + m) ≡ b
+      inner : (m : ℕ) (b : Bool) → done m ≡ number_at 4 s p → ltb most (k + m) ≡ b
           → end_of (pick b (ends (refused 41)) (group (reinstate_at s) m (p + 4) (λ q. ends (done q)))) ≡ done n
           → (p ≤ n) × (pick b (ends (refused 41)) (group (reinstate_at s) m (p + 4) (λ q. ends (done q))) ≡ reinstates most s' k p)
       inner m true w t e = refused-is-not-done e
@@ -144,19 +142,19 @@ module _ (s s' : List ℕ) (n : ℕ) (agree : take n s ≡ take n s') (l : n ≤
           let h = g.0 in
           (omega arith, rw (sym (same_count p h) ∙ sym w, t) g.1)
 
-      second : (w : U32At) → w ≡ u32_at s p
-          → end_of (counted w (λ m. pick (ltb most (k + m)) (ends (refused 41)) (group (reinstate_at s) m (p + 4) (λ q. ends (done q)))))
+      second : (w : Outcome ℕ) → w ≡ number_at 4 s p
+          → end_of (onward w (λ m. pick (ltb most (k + m)) (ends (refused 41)) (group (reinstate_at s) m (p + 4) (λ q. ends (done q)))))
           ≡ done n
-          → (p ≤ n) × (counted w (λ m. pick (ltb most (k + m)) (ends (refused 41)) (group (reinstate_at s) m (p + 4) (λ q. ends (done q))))
+          → (p ≤ n) × (onward w (λ m. pick (ltb most (k + m)) (ends (refused 41)) (group (reinstate_at s) m (p + 4) (λ q. ends (done q))))
           ≡ reinstates most s' k p)
-      second Short q e = refused-is-not-done e
-      second (Value m) q e = inner m (ltb most (k + m)) q refl e
+      second (refused x) q e = refused-is-not-done e
+      second (done m) q e = inner m (ltb most (k + m)) q refl e
 
   reading-kept : (most : ℕ) → end_of (reading most s) ≡ done n → reading most s ≡ reading most s'
   unfolding reading
-  reading-kept most e = first (u32_at s 0) refl e
+  reading-kept most e = first (number_at 4 s 0) refl e
     where
-      inner : (k : ℕ) (b : Bool) → Value k ≡ u32_at s 0 → ltb most k ≡ b
+      inner : (k : ℕ) (b : Bool) → done k ≡ number_at 4 s 0 → ltb most k ≡ b
           → end_of (pick b (ends (refused 41)) (group (erase_at s) k 4 (λ p. reinstates most s k p))) ≡ done n
           → pick b (ends (refused 41)) (group (erase_at s) k 4 (λ p. reinstates most s k p)) ≡ reading most s'
       inner k true w t e = refused-is-not-done e
@@ -166,11 +164,11 @@ module _ (s s' : List ℕ) (n : ℕ) (agree : take n s ≡ take n s') (l : n ≤
           let h = g.0 in
           rw (sym (same_count 0 h) ∙ sym w, t) g.1
 
-      first : (w : U32At) → w ≡ u32_at s 0
-          → end_of (counted w (λ k. pick (ltb most k) (ends (refused 41)) (group (erase_at s) k 4 (λ p. reinstates most s k p)))) ≡ done n
-          → counted w (λ k. pick (ltb most k) (ends (refused 41)) (group (erase_at s) k 4 (λ p. reinstates most s k p))) ≡ reading most s'
-      first Short q e = refused-is-not-done e
-      first (Value k) q e = inner k (ltb most k) q refl e
+      first : (w : Outcome ℕ) → w ≡ number_at 4 s 0
+          → end_of (onward w (λ k. pick (ltb most k) (ends (refused 41)) (group (erase_at s) k 4 (λ p. reinstates most s k p)))) ≡ done n
+          → onward w (λ k. pick (ltb most k) (ends (refused 41)) (group (erase_at s) k 4 (λ p. reinstates most s k p))) ≡ reading most s'
+      first (refused x) q e = refused-is-not-done e
+      first (done k) q e = inner k (ltb most k) q refl e
 
 pub decode-depends : DecodeDepends
 decode-depends most s s' n e agree =

@@ -2,24 +2,19 @@
 -- Assumes nothing.
 use Prim.Native.Nat.{ℕ, suc, ◌+◌, ◌-◌, ◌<◌, ◌≤◌}
 use mathlib.Core.List.{List, [], ◌∷◌, ◌++◌}
-use mathlib.Core.Path.{◌≡◌, refl, ap, sym, ◌∙◌}
-use lib.ListN.{length, set}
-use lib.Dec.{leb}
+use mathlib.Core.Path.{◌≡◌, refl, ap, sym, subst, ◌∙◌}
+use lib.ListN.{length, length-append}
 use native.Mathlib.Omega.{arith}
-use borrow.Author.Tests.{le-leb, lt-leb, leb-true, leb-false}
+use Rattle.std.specs.Prelude.{Result, Ok, Err}
 use Rattle.lists.specs.Outcome.{refused}
-use Rattle.lists.specs.Splice.{part}
 use Rattle.lists.proofs.Bools.{zero-is-not-one}
-use Rattle.lists.proofs.Cases.{by-test}
-use Rattle.little_endian.specs.LittleEndian.{le_at, stand_at, u32_at}
-use Rattle.little_endian.specs.declared.U32At.{U32At}
-use Rattle.little_endian.specs.declared.U32At.TheVariants.{Value, Short}
-use Rattle.little_endian.proofs.LittleEndian.{u32-short, u32-is, u32-stands}
-use Rattle.delta.specs.Table.{erased, reinstated, rows_of, Plain}
-use Rattle.delta.specs.Reading.{Got, Got.short, Got.got, Reading, Reading.ends, Reading.row, erase_at, reinstate_at, group, prepend}
+use Rattle.refusal.specs.declared.Refusal.{Refusal}
+use Rattle.refusal.specs.declared.Refusal.TheVariants.{EndsEarly}
+use Rattle.delta.specs.Table.{rows_of, table_of, Plain}
+use Rattle.delta.specs.Reading.{Got, Got.short, Got.got, Reading, Reading.ends, Reading.row, entry, group, prepend, Reads}
 use Rattle.delta.specs.declared.Row.{Row}
 use Rattle.delta.specs.declared.Table.{Table}
-use Rattle.delta.proofs.TablePlain.{store-behind}
+use Rattle.delta.proofs.TablePlain.{rows-table, table-plain}
 
 -- rows before rows before a reading
 pub prepend-append : (xs ys : List Row) (w : Reading) → prepend (xs ++ ys) w ≡ prepend xs (prepend ys w)
@@ -44,15 +39,14 @@ module _ (at : ℕ → Got) (before : List Row) (n start : ℕ) where
       }
 
   module _ (i p : ℕ) (u : Table) (g : Grouping at before n start i p u) where
-    -- the row at p is whole
-    pub grouping-turn : (r : Row) (q c : ℕ) → i < n → at p ≡ got r q → c ≡ u.count → c < 256
-        → Grouping at before n start (i + 1) q (record { rows = set u.rows c r; count = c + 1 })
-    grouping-turn r q c h e k l =
-        let b = store-behind u r c g.plain k l in
+    -- the row at p is whole, and goes behind the others
+    pub grouping-turn : (r : Row) (q : ℕ) → i < n → at p ≡ got r q
+        → Grouping at before n start (i + 1) q (table_of (rows_of u ++ (r ∷ [])))
+    grouping-turn r q h e =
         record {
-          plain = b.plain;
+          plain = table-plain (rows_of u ++ (r ∷ []));
           same = λ next. g.same next ∙ step next
-              ∙ sym (ap (λ (rs : List Row). prepend rs (group at (n - (i + 1)) q next)) b.rows
+              ∙ sym (ap (λ (rs : List Row). prepend rs (group at (n - (i + 1)) q next)) (rows-table (rows_of u ++ (r ∷ [])))
               ∙ prepend-append (rows_of u) (r ∷ []) (group at (n - (i + 1)) q next));
         }
       where
@@ -67,7 +61,7 @@ module _ (at : ℕ → Got) (before : List Row) (n start : ℕ) where
         step next = ap (prepend (rows_of u)) (one next)
 
     -- the row at p is not whole
-    pub grouping-short : i < n → at p ≡ short → (next : ℕ → Reading)
+    grouping-short : i < n → at p ≡ short → (next : ℕ → Reading)
         → prepend before (group at n start next) ≡ prepend (rows_of u) (ends (refused 40))
     unfolding group
     grouping-short h e next =
@@ -75,53 +69,72 @@ module _ (at : ℕ → Got) (before : List Row) (n start : ℕ) where
         g.same next ∙ ap (prepend (rows_of u)) (ap (λ (k : ℕ). group at k p next) f ∙ rw e)
 
     -- behind the last row
-    pub grouping-end : n ≤ i → (next : ℕ → Reading) → prepend before (group at n start next) ≡ prepend (rows_of u) (next p)
+    grouping-end : n ≤ i → (next : ℕ → Reading) → prepend before (group at n start next) ≡ prepend (rows_of u) (next p)
     unfolding group
     grouping-end h next =
         let f : n - i ≡ 0 = omega arith in
         g.same next ∙ ap (λ (k : ℕ). prepend (rows_of u) (group at k p next)) f
 
-module _ (s : List ℕ) (p : ℕ) where
-  -- too little for a key
-  pub erase-short : length s < p + 32 → erase_at s p ≡ short
-  unfolding erase_at
-  erase-short h = rw (lt-leb (p + 32) (length s) h)
+-- one row more
+pub put-count : (t : Table) (r : Row) → Plain t → (table_of (rows_of t ++ (r ∷ []))).count ≡ t.count + 1
+put-count t r p =
+    let long : t.count ≡ length (rows_of t) = ap (λ (u : Table). u.count) p in
+    length-append (rows_of t) (r ∷ []) ∙ ap (λ (k : ℕ). k + 1) (sym long)
 
-  -- a key
-  pub erase-got : p + 32 ≤ length s → (key : List ℕ) → key ≡ part p 32 s → erase_at s p ≡ got (erased key) (p + 32)
-  unfolding erase_at
-  erase-got h key e = rw (le-leb (p + 32) (length s) h, ← e)
+-- the loop's state: where the next row begins, in `size` bytes, how many rows stand, and what was read
+pub record Turn (size : ℕ) (at : ℕ → Got) (t : Table) (n start i p : ℕ) (u : Table) : Type 0 where
+  pub inside : p ≤ size
+  pub count : u.count ≡ t.count + i
+  pub read : Grouping at (rows_of t) n start i p u
 
-  -- a number that was read stands inside
-  pub u32-inside : (w : U32At) (v : ℕ) → w ≡ u32_at s p → w ≡ Value v → p + 4 ≤ length s
-  u32-inside w v e f =
-      by-test (stand_at 4 s p) (λ h. leb-true (p + 4) (length s) h)
-      (λ h. let q = sym f ∙ e ∙ u32-short s p h in zero-is-not-one (cc))
+module _ {size : ℕ} {at : ℕ → Got} {t : Table} {n start : ℕ} where
+  -- before the first row
+  pub turn-first : start ≤ size → Plain t → Turn size at t n start 0 start t
+  turn-first h p = record { inside = h; count = omega arith; read = grouping-start at (rows_of t) n start t p refl }
 
-  -- a number that was not read does not
-  pub u32-outside : (w : U32At) → w ≡ u32_at s p → w ≡ Short → length s < p + 4
-  u32-outside w e f =
-      by-test (leb (p + 4) (length s)) (λ h. absurd (u32-stands s p (leb-true (p + 4) (length s) h) (sym e ∙ f)))
-      (λ h. leb-false (p + 4) (length s) h)
+  module _ {i p : ℕ} {u : Table} (w : Turn size at t n start i p u) where
+    -- one row more
+    pub turn-next : i < n → ((p : ℕ) (r : Row) (q : ℕ) → at p ≡ got r q → q ≤ size) → (r : Row) (q : ℕ) → Ok (r, q) ≡ entry (at p)
+        → (v : Table) → v ≡ table_of (rows_of u ++ (r ∷ [])) → Turn size at t n start (i + 1) q v
+    turn-next h ends_in r q e v f =
+        let met : at p ≡ got r q = is (at p) e in
+        let k = put-count u r w.read.plain in
+        let c = w.count in
+        record {
+          inside = ends_in p r q met;
+          count = ap (λ (x : Table). x.count) f ∙ omega arith;
+          read = subst (λ (x : Table). Grouping at (rows_of t) n start (i + 1) q x) (sym f)
+              (grouping-turn at (rows_of t) n start i p u w.read r q h met);
+        }
+      where
+        is : (g : Got) → Ok (r, q) ≡ entry g → g ≡ got r q
+        is short e = zero-is-not-one (cc)
+        is (got r' q') e =
+            let same : ◌≡◌ {A = Row × ℕ} (r, q) (r', q') = cc in
+            sym (ap (λ (x : Row × ℕ). got x.0 x.1) same)
 
-  -- the value's length is not whole
-  pub reinstate-short : length s < p + 32 + 4 → reinstate_at s p ≡ short
-  unfolding reinstate_at
-  reinstate-short h = rw (lt-leb (p + (36 + le_at 4 s (p + 32))) (length s) (omega arith))
+    -- a row that is not whole ends the reading
+    pub turn-cut : i < n → (r : Refusal) → Err r ≡ entry (at p) → (x : Result ℕ Refusal) → x ≡ Err r
+        → Reads size (t.count + n) (rows_of t) (group at n start) x u
+    turn-cut h r e x f =
+        let met = cut (at p) e in
+        subst (λ (y : Result ℕ Refusal). Reads size (t.count + n) (rows_of t) (group at n start) y u) (sym (f ∙ ap Err met.1))
+        (record {
+          same = grouping-short at (rows_of t) n start i p u w.read h met.0;
+          inside = tt;
+          room = omega (arith, w.count);
+          plain = w.read.plain;
+        })
+      where
+        cut : (g : Got) → Err r ≡ entry g → (g ≡ short) × (r ≡ EndsEarly)
+        cut short e = (refl, cc)
+        cut (got r' q') e = zero-is-not-one (cc)
 
-  module _ (w : U32At) (n : ℕ) (e : w ≡ u32_at s (p + 32)) (f : w ≡ Value n) where
-    is : le_at 4 s (p + 32) ≡ n
-    is = u32-is s (p + 32) n (sym e ∙ f)
-
-    -- the value is not whole
-    pub reinstate-cut : length s < p + 36 + n → reinstate_at s p ≡ short
-    unfolding reinstate_at
-    reinstate-cut h = rw (is, lt-leb (p + (36 + n)) (length s) (omega arith))
-
-    -- a key, a length and a value
-    pub reinstate-got : p + 36 + n ≤ length s → (key : List ℕ) → key ≡ part p 32 s
-        → reinstate_at s p ≡ got (reinstated key (p + 36) n) (p + 36 + n)
-    unfolding reinstate_at
-    reinstate-got h key k =
-        let q : p + (36 + n) ≡ p + 36 + n = omega arith in
-        rw (is, le-leb (p + (36 + n)) (length s) (omega arith), ← k, q)
+    -- behind the last row
+    pub turn-last : n ≤ i → i ≤ n → Reads size (t.count + n) (rows_of t) (group at n start) (Ok p) u
+    turn-last h g = record {
+      same = grouping-end at (rows_of t) n start i p u w.read h;
+      inside = w.inside;
+      room = omega (arith, w.count);
+      plain = w.read.plain;
+    }

@@ -8,22 +8,20 @@ use lib.ListN.{length, get_or}
 use lib.Dec.{ltb}
 use native.Mathlib.Nat.{pow-suc}
 use native.Mathlib.Omega.{arith}
-use borrow.Author.Tests.{ltb-false, leb-true}
+use borrow.Author.Tests.{ltb-false}
 use Rattle.lists.specs.Choice.{pick}
 use Rattle.lists.specs.Outcome.{Outcome, refused, done}
 use Rattle.lists.proofs.Outcome.{refused-is-not-done}
 use Rattle.lists.proofs.Bools.{zero-is-not-one}
-use Rattle.lists.specs.Splice.{part}
 use Rattle.lists.proofs.Splice.{part_length}
-use Rattle.little_endian.specs.LittleEndian.{le_at, stand_at, u32_at}
-use Rattle.little_endian.specs.declared.U32At.{U32At}
-use Rattle.little_endian.specs.declared.U32At.TheVariants.{Value, Short}
+use Rattle.little_endian.specs.LittleEndian.{le_at, number_at}
 use Rattle.lists.specs.Each.{Every}
 use Rattle.keys.specs.Sorting.{sort_by, clash}
-use Rattle.delta.specs.Table.{row_key, erased, reinstated, table_of}
+use Rattle.delta.specs.Table.{row_key, table_of}
 use Rattle.delta.specs.Reading.{Got, Got.short, Got.got, Reading, Reading.ends, Reading.row, erase_at, reinstate_at, entered}
-use Rattle.delta.specs.Reading.{counted, group, reinstates, reading, DecodeOutcome, answered, decoded_of, prepend}
+use Rattle.delta.specs.Reading.{onward, group, reinstates, reading, DecodeOutcome, answered, decoded_of, prepend}
 use Rattle.delta.specs.declared.Row.{Row}
+use Rattle.delta.proofs.Entries.{erase-is, reinstate-is}
 use Rattle.delta.proofs.ReadingWhole.{decoded-read}
 
 -- the rows of a reading
@@ -67,33 +65,6 @@ accepted-good most s n e =
         record { once = c; end = g ∙ same; is = d ∙ rw (c, g) (ap (λ (k : Outcome ℕ). answered k xs) same) }
     go false c (refused m) g q = refused-is-not-done q
 
--- what stands at a position, by whether enough does
-module _ (s : List ℕ) (p : ℕ) where
-  -- a row of the erase group that was got
-  pub erase-is : (r : Row) (q : ℕ) → erase_at s p ≡ got r q → (p + 32 ≤ length s) × (erased (part p 32 s) ≡ r) × (p + 32 ≡ q)
-  unfolding erase_at
-  erase-is r q e = go (stand_at 32 s p) refl e
-    where
-      go : (b : Bool) → stand_at 32 s p ≡ b → pick b (got (erased (part p 32 s)) (p + 32)) short ≡ got r q
-          → (p + 32 ≤ length s) × (erased (part p 32 s) ≡ r) × (p + 32 ≡ q)
-      go true h e = (leb-true (p + 32) (length s) h, cc, cc)
-      go false h e = zero-is-not-one (cc)
-
-  abbrev size : ℕ
-  size = le_at 4 s (p + 32)
-
-  -- a row of the reinstate group that was got
-  pub reinstate-is : (r : Row) (q : ℕ) → reinstate_at s p ≡ got r q
-      → (p + (36 + size) ≤ length s) × (reinstated (part p 32 s) (p + 36) size ≡ r) × (p + (36 + size) ≡ q)
-  unfolding reinstate_at
-  reinstate-is r q e = go (stand_at (36 + size) s p) refl e
-    where
-      go : (b : Bool) → stand_at (36 + size) s p ≡ b → pick b (got (reinstated (part p 32 s) (p + 36) size) (p + (36 + size))) short
-          ≡ got r q
-          → (p + (36 + size) ≤ length s) × (reinstated (part p 32 s) (p + 36) size ≡ r) × (p + (36 + size) ≡ q)
-      go true h e = (leb-true (p + (36 + size)) (length s) h, cc, cc)
-      go false h e = zero-is-not-one (cc)
-
 -- a property of each row that a group gives, and of those behind it
 every-group : (P : Row → Type 0) (at : ℕ → Got) → ((p : ℕ) (r : Row) (q : ℕ) → at p ≡ got r q → P r) → (n p : ℕ) (next : ℕ → Reading)
     → ((p : ℕ) → Every P (rows_in (next p))) → Every P (rows_in (group at n p next))
@@ -109,26 +80,26 @@ every-group P at f (suc n) p next g = go (at p) refl (λ q. every-group P at f n
 pub every-read : (P : Row → Type 0) (most : ℕ) (s : List ℕ) → ((p : ℕ) (r : Row) (q : ℕ) → erase_at s p ≡ got r q → P r)
     → ((p : ℕ) (r : Row) (q : ℕ) → reinstate_at s p ≡ got r q → P r) → Every P (rows_in (reading most s))
 unfolding reading reinstates
-every-read P most s f g = first (u32_at s 0)
+every-read P most s f g = first (number_at 4 s 0)
   where
     inner : (n p m : ℕ) (b : Bool) → Every P (rows_in (pick b (ends (refused 41)) (group (reinstate_at s) m (p + 4) (λ q. ends (done q)))))
     inner n p m true = tt
     inner n p m false = every-group P (reinstate_at s) g m (p + 4) (λ q. ends (done q)) (λ q. tt)
 
-    second : (n p : ℕ) (w : U32At)
-        → Every P (rows_in (counted w (λ m. pick (ltb most (n + m)) (ends (refused 41))
+    second : (n p : ℕ) (w : Outcome ℕ)
+        → Every P (rows_in (onward w (λ m. pick (ltb most (n + m)) (ends (refused 41))
         (group (reinstate_at s) m (p + 4) (λ q. ends (done q))))))
-    second n p Short = tt
-    second n p (Value m) = inner n p m (ltb most (n + m))
+    second n p (refused e) = tt
+    second n p (done m) = inner n p m (ltb most (n + m))
 
     outer : (n : ℕ) (b : Bool) → Every P (rows_in (pick b (ends (refused 41)) (group (erase_at s) n 4 (λ p. reinstates most s n p))))
     outer n true = tt
-    outer n false = every-group P (erase_at s) f n 4 (λ p. reinstates most s n p) (λ p. second n p (u32_at s p))
+    outer n false = every-group P (erase_at s) f n 4 (λ p. reinstates most s n p) (λ p. second n p (number_at 4 s p))
 
-    first : (w : U32At) → Every P
-        (rows_in (counted w (λ n. pick (ltb most n) (ends (refused 41)) (group (erase_at s) n 4 (λ p. reinstates most s n p)))))
-    first Short = tt
-    first (Value n) = outer n (ltb most n)
+    first : (w : Outcome ℕ) → Every P
+        (rows_in (onward w (λ n. pick (ltb most n) (ends (refused 41)) (group (erase_at s) n 4 (λ p. reinstates most s n p)))))
+    first (refused e) = tt
+    first (done n) = outer n (ltb most n)
 
 -- how many rows a group gives
 count-group : (at : ℕ → Got) (n p : ℕ) (next : ℕ → Reading) (k : ℕ) → ((p : ℕ) → length (rows_in (next p)) ≤ k)
@@ -145,7 +116,7 @@ count-group at (suc n) p next k h = go (at p) (λ q. count-group at n q next k h
 -- no more rows are read than the limit
 pub count-read : (most : ℕ) (s : List ℕ) → length (rows_in (reading most s)) ≤ most
 unfolding reading reinstates
-count-read most s = first (u32_at s 0)
+count-read most s = first (number_at 4 s 0)
   where
     inner : (n p m : ℕ) (b : Bool) → ltb most (n + m) ≡ b → n ≤ most
         → length (rows_in (pick b (ends (refused 41)) (group (reinstate_at s) m (p + 4) (λ q. ends (done q))))) ≤ most - n
@@ -157,23 +128,23 @@ count-read most s = first (u32_at s 0)
       ltb-false most (n + m) h,
     )
 
-    second : (n p : ℕ) (w : U32At) → n ≤ most
-        → length (rows_in (counted w (λ m. pick (ltb most (n + m)) (ends (refused 41))
+    second : (n p : ℕ) (w : Outcome ℕ) → n ≤ most
+        → length (rows_in (onward w (λ m. pick (ltb most (n + m)) (ends (refused 41))
         (group (reinstate_at s) m (p + 4) (λ q. ends (done q)))))) ≤ most - n
-    second n p Short l = omega arith
-    second n p (Value m) l = inner n p m (ltb most (n + m)) refl l
+    second n p (refused e) l = omega arith
+    second n p (done m) l = inner n p m (ltb most (n + m)) refl l
 
     outer : (n : ℕ) (b : Bool) → ltb most n ≡ b
         → length (rows_in (pick b (ends (refused 41)) (group (erase_at s) n 4 (λ p. reinstates most s n p)))) ≤ most
     outer n true h = omega arith
     outer n false h =
         let l = ltb-false most n h in
-        omega (arith, count-group (erase_at s) n 4 (λ p. reinstates most s n p) (most - n) (λ p. second n p (u32_at s p) l))
+        omega (arith, count-group (erase_at s) n 4 (λ p. reinstates most s n p) (most - n) (λ p. second n p (number_at 4 s p) l))
 
-    first : (w : U32At) → length
-        (rows_in (counted w (λ n. pick (ltb most n) (ends (refused 41)) (group (erase_at s) n 4 (λ p. reinstates most s n p))))) ≤ most
-    first Short = omega arith
-    first (Value n) = outer n (ltb most n) refl
+    first : (w : Outcome ℕ) → length
+        (rows_in (onward w (λ n. pick (ltb most n) (ends (refused 41)) (group (erase_at s) n 4 (λ p. reinstates most s n p))))) ≤ most
+    first (refused e) = omega arith
+    first (done n) = outer n (ltb most n) refl
 
 -- every element is a byte
 abbrev pub Bytes : List ℕ → Type 0

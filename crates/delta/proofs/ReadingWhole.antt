@@ -5,24 +5,24 @@ use mathlib.Core.Bool.{Bool, true, false}
 use mathlib.Core.List.{List, [], ◌∷◌, ◌++◌, append_assoc, append-nil}
 use mathlib.Core.Path.{◌≡◌, refl, ap, sym, subst, ◌∙◌}
 use borrow.Author.Tests.{lt-ltb, le-ltb}
+use Rattle.std.specs.Prelude.{Result, Ok, Err}
 use Rattle.lists.specs.Choice.{pick}
 use Rattle.lists.specs.Outcome.{Outcome, refused, done}
-use Rattle.little_endian.specs.LittleEndian.{u32_at}
-use Rattle.little_endian.specs.declared.U32At.{U32At}
-use Rattle.little_endian.specs.declared.U32At.TheVariants.{Value, Short}
-use Rattle.keys.specs.Sorting.{has, sort_by, clash}
+use Rattle.lists.proofs.Outcome.{refused-is-not-done, done-injective}
 use Rattle.lists.proofs.Each.{any_append}
+use Rattle.refusal.specs.declared.Refusal.{Refusal}
+use Rattle.refusal.specs.declared.Refusal.TheVariants.{OverLimit}
+use Rattle.refusal.specs.Refusals.{number, outcome}
+use Rattle.little_endian.specs.LittleEndian.{number_at}
+use Rattle.keys.specs.Sorting.{has, sort_by, clash}
 use Rattle.keys.proofs.Sorting.{clash-middle}
 use Rattle.delta.specs.Table.{row_key, rows_of, table_of, Plain, arranged_of}
-use Rattle.delta.specs.Reading.{Reading, Reading.ends, erase_at, reinstate_at, group, reinstates, reading, walk, decoding_outcome}
-use Rattle.delta.specs.Reading.{decode_outcome, refused_of, answered, decoded_of, prepend, onward, Reads, WholeRead}
+use Rattle.delta.specs.Reading.{Reading.ends, erase_at, reinstate_at, group, reinstates, reading, walk, onward}
+use Rattle.delta.specs.Reading.{decode_outcome, answered, decoded_of, prepend, Reads, WholeRead}
 use Rattle.delta.specs.declared.Row.{Row}
-use Rattle.delta.specs.declared.Read.{Read}
-use Rattle.delta.specs.declared.Arranged.{Arranged}
-use Rattle.delta.specs.declared.Decoding.{Decoding}
-use Rattle.delta.specs.declared.Decoding.TheVariants.{Consumed, EndsEarly, OverLimit, Duplicate}
+use Rattle.delta.specs.declared.Table.{Table}
+use Rattle.delta.specs.declared.Decoded.{Decoded}
 use Rattle.delta.proofs.TablePlain.{table-plain}
-use Rattle.delta.proofs.TableArranged.{arranged-clash, arranged-table}
 
 -- a row whose key an earlier one has
 clash-met : (seen : List Row) (r : Row) (xs : List Row) → has row_key r.key seen ≡ true → clash row_key (seen ++ (r ∷ xs)) ≡ true
@@ -62,141 +62,129 @@ decoded-read most s xs e q =
     go true = refl
     go false = refl
 
--- an answer that is a refusal
-abbrev pub Refused : Decoding → Type 0
-Refused (Consumed n) = ⊥
-Refused EndsEarly = Unit {0}
-Refused OverLimit = Unit {0}
-Refused Duplicate = Unit {0}
-
--- an answer of another case than the first is a refusal
-pub other-refused : (d : Decoding) → ((n : ℕ) → d ≡ Consumed n → ⊥) → Refused d
-other-refused (Consumed n) h = absurd (h n refl)
-other-refused EndsEarly h = tt
-other-refused OverLimit h = tt
-other-refused Duplicate h = tt
-
-onward-refused : (d : Decoding) (next : ℕ → Reading) → Refused d
-    → onward (decoding_outcome d) next ≡ ends (decoding_outcome d)
-onward-refused (Consumed n) next h = absurd h
-onward-refused EndsEarly next h = refl
-onward-refused OverLimit next h = refl
-onward-refused Duplicate next h = refl
-
-answered-refused : (d : Decoding) (xs : List Row) → Refused d
-    → answered (decoding_outcome d) xs ≡ decode_outcome (refused_of d)
-answered-refused (Consumed n) xs h = absurd h
-answered-refused EndsEarly xs h = refl
-answered-refused OverLimit xs h = refl
-answered-refused Duplicate xs h = refl
-
--- a reading that ended before the first row
-read-nothing : (most : ℕ) (s : List ℕ) (e : Decoding) (r : Read) → reading most s ≡ ends (decoding_outcome e)
-    → r ≡ record { answer = e; table = table_of [] }
-    → WholeRead most s r
-unfolding prepend
-read-nothing most s e r q w =
-    record {
-      same = q ∙ sym (ap (λ (x : Read). prepend (rows_of x.table) (ends (decoding_outcome x.answer))) w);
-      plain = subst (λ (x : Read). Plain x.table) (sym w) (table-plain []);
-    }
-
 -- an erase group of n rows was read whole, and ended at p
-pub record Erased (most : ℕ) (s : List ℕ) (n p : ℕ) (r : Read) : Type 0 where
-  pub same : reading most s ≡ prepend (rows_of r.table) (reinstates most s n p)
-  pub plain : Plain r.table
+pub record Erased (most : ℕ) (s : List ℕ) (n p : ℕ) (t : Table) : Type 0 where
+  pub same : reading most s ≡ prepend (rows_of t) (reinstates most s n p)
+  pub plain : Plain t
 
-module _ (most : ℕ) (s : List ℕ) (w : U32At) (e : w ≡ u32_at s 0) where
+-- ---- the reading that an answer belongs to
+
+module _ (most : ℕ) (s : List ℕ) where
   -- the erase count is not whole
-  pub read_short : w ≡ Short → (r : Read) → r ≡ record { answer = EndsEarly; table = table_of [] } → WholeRead most s r
-  read_short f r q = read-nothing most s EndsEarly r (unfold reading in rw (sym e ∙ f)) q
+  pub read-none : (x : ℕ) → refused x ≡ number_at 4 s 0 → reading most s ≡ ends (refused x)
+  unfolding reading
+  read-none x e = rw (sym e)
 
-  module _ (n : ℕ) (f : w ≡ Value n) where
+  -- a reading that ended before the first row
+  pub read-nothing : (a : Result ℕ Refusal) → reading most s ≡ ends (outcome a) → (t : Table) → t ≡ table_of [] → WholeRead most s a t
+  unfolding prepend
+  read-nothing a q t w = record {
+    same = q ∙ sym (ap (λ (u : Table). prepend (rows_of u) (ends (outcome a))) w);
+    plain = subst (λ (u : Table). Plain u) (sym w) (table-plain []);
+  }
+
+  module _ (n : ℕ) (e : done n ≡ number_at 4 s 0) where
     -- the erase count passes the limit
-    pub read-over : most < n → (r : Read) → r ≡ record { answer = OverLimit; table = table_of [] } → WholeRead most s r
-    read-over h r q = read-nothing most s OverLimit r (unfold reading in rw (sym e ∙ f, lt-ltb most n h)) q
+    pub read-over : most < n → reading most s ≡ ends (refused 41)
+    unfolding reading
+    read-over h = rw (sym e, lt-ltb most n h)
 
-    module _ (h : n ≤ most) (size : ℕ) (r : Read) (g : Reads size n [] (group (erase_at s) n 4) r) where
-      first_group : reading most s ≡ group (erase_at s) n 4 (λ p. reinstates most s n p)
-      unfolding reading
-      first_group = rw (sym e ∙ f, le-ltb most n h)
+    module _ (h : n ≤ most) (before : List Row) (b : before ≡ []) (size k : ℕ) (a : Result ℕ Refusal) (t : Table)
+        (g : Reads size k before (group (erase_at s) n 4) a t) where
+      first_group : reading most s ≡ prepend before (group (erase_at s) n 4 (λ p. reinstates most s n p))
+      unfolding reading prepend
+      first_group = rw (sym e, le-ltb most n h, b)
 
-      erases : reading most s ≡ prepend (rows_of r.table) (onward (decoding_outcome r.answer) (reinstates most s n))
-      erases = first_group ∙ (unfold prepend in (g.same (reinstates most s n)))
+      erases : reading most s ≡ prepend (rows_of t) (onward (outcome a) (reinstates most s n))
+      erases = first_group ∙ g.same (reinstates most s n)
 
       -- the erase group is not whole
-      pub read-erases : Refused r.answer → WholeRead most s r
-      read-erases b = record {
-        same = erases ∙ ap (prepend (rows_of r.table))
-            (onward-refused r.answer (reinstates most s n) b);
+      pub read-erases : (x : Refusal) → a ≡ Err x → (y : Result ℕ Refusal) → y ≡ Err x → WholeRead most s y t
+      read-erases x c y f = record {
+        same = erases ∙ ap (λ (z : Result ℕ Refusal). prepend (rows_of t) (onward (outcome z) (reinstates most s n))) c
+            ∙ sym (ap (λ (z : Result ℕ Refusal). prepend (rows_of t) (ends (outcome z))) f);
         plain = g.plain;
       }
 
       -- the erase group is whole
-      pub erases-read : (p : ℕ) → r.answer ≡ Consumed p → Erased most s n p r
-      erases-read p k = record {
-        same = erases ∙ ap (λ (d : Decoding). prepend (rows_of r.table) (onward (decoding_outcome d) (reinstates most s n))) k;
+      pub erases-read : (p : ℕ) → a ≡ Ok p → Erased most s n p t
+      erases-read p c = record {
+        same = erases ∙ ap (λ (z : Result ℕ Refusal). prepend (rows_of t) (onward (outcome z) (reinstates most s n))) c;
         plain = g.plain;
       }
 
-module _ {most : ℕ} {s : List ℕ} {n p : ℕ} {r : Read} (g : Erased most s n p r) (v : U32At) (c : v ≡ u32_at s p) where
+module _ {most : ℕ} {s : List ℕ} {n p : ℕ} {t : Table} (g : Erased most s n p t) where
   -- the reinstate count is not whole
-  pub read-cut : v ≡ Short → WholeRead most s (record { answer = EndsEarly; table = r.table })
-  read-cut b = record { same = g.same ∙ ap (prepend (rows_of r.table)) (unfold reinstates in rw (sym c ∙ b)); plain = g.plain }
+  pub read-cut : (x : Refusal) → refused (number x) ≡ number_at 4 s p → (y : Result ℕ Refusal) → y ≡ Err x → WholeRead most s y t
+  read-cut x e y f = record {
+    same = g.same ∙ ap (prepend (rows_of t)) cut ∙ sym (ap (λ (z : Result ℕ Refusal). prepend (rows_of t) (ends (outcome z))) f);
+    plain = g.plain;
+  }
+    where
+      cut : reinstates most s n p ≡ ends (refused (number x))
+      cut = unfold reinstates in rw (sym e)
 
-  module _ (m : ℕ) (b : v ≡ Value m) where
+  module _ (m : ℕ) (e : done m ≡ number_at 4 s p) where
     -- the counts together pass the limit
-    pub read-many : most < n + m → WholeRead most s (record { answer = OverLimit; table = r.table })
+    pub read-many : most < n + m → WholeRead most s (Err OverLimit) t
     read-many o = record {
-      same = g.same ∙ ap (prepend (rows_of r.table))
-          (unfold reinstates in rw (sym c ∙ b, lt-ltb most (n + m) o));
+      same = g.same ∙ ap (prepend (rows_of t)) (unfold reinstates in rw (sym e, lt-ltb most (n + m) o));
       plain = g.plain;
     }
 
     -- both groups
-    pub read-both : n + m ≤ most → (size : ℕ) (q : Read)
-        → Reads size (r.table.count + m) (rows_of r.table) (group (reinstate_at s) m (p + 4)) q → WholeRead most s q
-    read-both o size q z =
+    pub read-both : n + m ≤ most → (size k : ℕ) (a : Result ℕ Refusal) (u : Table)
+        → Reads size k (rows_of t) (group (reinstate_at s) m (p + 4)) a u → WholeRead most s a u
+    read-both o size k a u z =
         record {
-          same = g.same ∙ ap (prepend (rows_of r.table)) both
-              ∙ z.same (λ i. ends (done i)) ∙ ap (prepend (rows_of q.table)) (last (decoding_outcome q.answer));
+          same = g.same ∙ ap (prepend (rows_of t)) both
+              ∙ z.same (λ i. ends (done i)) ∙ ap (prepend (rows_of u)) (last (outcome a));
           plain = z.plain;
         }
       where
         both : reinstates most s n p ≡ group (reinstate_at s) m (p + 4) (λ q. ends (done q))
-        both = unfold reinstates in rw (sym c ∙ b, le-ltb most (n + m) o)
+        both = unfold reinstates in rw (sym e, le-ltb most (n + m) o)
 
         last : (d : Outcome ℕ) → onward d (λ i. ends (done i)) ≡ ends d
         last (done i) = refl
         last (refused i) = refl
 
--- what `decode` answers, by the rows put in order
-module _ (most : ℕ) (s : List ℕ) (r : Read) (w : WholeRead most s r) (a : Arranged) (q : a ≡ arranged_of (rows_of r.table)) where
-  whole : decoded_of most s
-      ≡ pick (clash row_key (rows_of r.table)) (decode_outcome (refused_of Duplicate))
-      (answered (decoding_outcome r.answer) (rows_of r.table))
-  whole = decoded-read most s (rows_of r.table) (decoding_outcome r.answer) w.same
+-- ---- what `decode` answers, by the rows put in order
+
+module _ (most : ℕ) (s : List ℕ) (a : Result ℕ Refusal) (t : Table) (w : WholeRead most s a t)
+    (b : Result Table Refusal) (q : outcome b ≡ arranged_of (rows_of t)) where
+  whole : decoded_of most s ≡ pick (clash row_key (rows_of t)) (answered (refused 42) (rows_of t)) (answered (outcome a) (rows_of t))
+  whole = decoded-read most s (rows_of t) (outcome a) w.same
 
   -- a key twice
-  pub decode-twins : a.twins ≡ true → decoded_of most s ≡ decode_outcome (refused_of Duplicate)
-  decode-twins t =
-      let c : clash row_key (rows_of r.table) ≡ true = arranged-clash (rows_of r.table) a q ∙ t in
-      whole ∙ rw c
+  pub decode-twins : (x : Refusal) → b ≡ Err x → (y : Result Decoded Refusal) → y ≡ Err x → decode_outcome y ≡ decoded_of most s
+  decode-twins x e y f =
+      ap decode_outcome f ∙ go (clash row_key (rows_of t)) (sym (ap outcome e) ∙ q) ∙ sym whole
+    where
+      go : (c : Bool) → refused (number x) ≡ pick c (refused 42) (done (table_of (sort_by row_key (rows_of t))))
+          → record { answer = refused (number x); table = table_of [] }
+          ≡ pick c (answered (refused 42) (rows_of t)) (answered (outcome a) (rows_of t))
+      go true h = ap (λ (o : Outcome ℕ). record { answer = o; table = table_of [] }) (cc)
+      go false h = refused-is-not-done h
 
-  module _ (t : a.twins ≡ false) where
-    once : decoded_of most s ≡ answered (decoding_outcome r.answer) (rows_of r.table)
-    once =
-        let c : clash row_key (rows_of r.table) ≡ false = arranged-clash (rows_of r.table) a q ∙ t in
-        whole ∙ rw c
+  module _ (u : Table) (e : b ≡ Ok u) where
+    once : (clash row_key (rows_of t) ≡ false) × (u ≡ table_of (sort_by row_key (rows_of t)))
+    once = go (clash row_key (rows_of t)) (sym (ap outcome e) ∙ q)
+      where
+        go : (c : Bool) → done u ≡ pick c (refused 42) (done (table_of (sort_by row_key (rows_of t))))
+            → (c ≡ false) × (u ≡ table_of (sort_by row_key (rows_of t)))
+        go true h = refused-is-not-done (sym h)
+        go false h = (refl, done-injective h)
+
+    decoded : decoded_of most s ≡ answered (outcome a) (rows_of t)
+    decoded = whole ∙ rw once.0
 
     -- another fault
-    pub decode-fault : Refused r.answer → decoded_of most s ≡ decode_outcome (refused_of r.answer)
-    decode-fault b = once ∙ answered-refused r.answer (rows_of r.table) b
+    pub decode-fault : (x : Refusal) → a ≡ Err x → (y : Result Decoded Refusal) → y ≡ Err x → decode_outcome y ≡ decoded_of most s
+    decode-fault x f y g = ap decode_outcome g ∙ sym (decoded ∙ ap (λ (z : Result ℕ Refusal). answered (outcome z) (rows_of t)) f)
 
     -- no fault
-    pub decode-good : (n : ℕ) → r.answer ≡ Consumed n → decode_outcome (record { answer = Consumed n; table = a.table })
-        ≡ decoded_of most s
-    decode-good n e =
-        let c : a.table ≡ table_of (sort_by row_key (rows_of r.table)) = arranged-table (rows_of r.table) a q t in
-        (λ i. record { answer = done n; table = c i })
-        ∙ sym (once ∙ ap (λ (d : Decoding). answered (decoding_outcome d) (rows_of r.table)) e)
+    pub decode-good : (n : ℕ) → a ≡ Ok n → decode_outcome (Ok (record { consumed = n; table = u })) ≡ decoded_of most s
+    decode-good n f =
+        (λ i. record { answer = done n; table = once.1 i })
+        ∙ sym (decoded ∙ ap (λ (z : Result ℕ Refusal). answered (outcome z) (rows_of t)) f)

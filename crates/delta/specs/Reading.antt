@@ -1,44 +1,28 @@
 -- What decoding a delta comes to, from document 01, "Delta bytes": the reading, row by row in reading order; a key twice; the rows sorted.
 -- The limit on the number of keys is a parameter. Laws: proofs/. Assumes nothing.
-use Rattle.std.specs.Prelude.{ℕ, zero, suc, ◌+◌, ◌≤◌, List, [], ◌∷◌, ◌++◌, ◌≡◌, ltb}
+use Rattle.std.specs.Prelude.{ℕ, zero, suc, ◌+◌, ◌≤◌, List, [], ◌∷◌, ◌++◌, ◌≡◌, ltb, Result, Ok, Err}
 use Rattle.lists.specs.Choice.{pick}
-use Rattle.lists.specs.Outcome.{Outcome, refused, done, either}
+use Rattle.lists.specs.Outcome.{Outcome, refused, done}
 use Rattle.lists.specs.Splice.{part}
-use Rattle.little_endian.specs.LittleEndian.{le_at, stand_at, u32_at}
-use Rattle.little_endian.specs.declared.U32At.{U32At}
-use Rattle.little_endian.specs.declared.U32At.TheVariants.{Value, Short}
+use Rattle.refusal.specs.declared.Refusal.{Refusal}
+use Rattle.refusal.specs.declared.Refusal.TheVariants.{EndsEarly}
+use Rattle.refusal.specs.Refusals.{number, outcome}
+use Rattle.little_endian.specs.LittleEndian.{le_at, stand_at, number_at}
 use Rattle.keys.specs.Sorting.{has, sort_by}
 use Rattle.delta.specs.Table.{row_key, erased, reinstated, rows_of, table_of, Plain}
 use Rattle.delta.specs.declared.Row.{Row}
 use Rattle.delta.specs.declared.Table.{Table}
-use Rattle.delta.specs.declared.Decoding.{Decoding}
-use Rattle.delta.specs.declared.Decoding.TheVariants.{Consumed, EndsEarly, OverLimit, Duplicate}
 use Rattle.delta.specs.declared.Decoded.{Decoded}
-use Rattle.delta.specs.declared.Read.{Read}
-
--- document 01's number, or the bytes consumed, of each answer of `decode`
-abbrev pub decoding_outcome : Decoding → Outcome ℕ
-decoding_outcome (Consumed n) = done n
-decoding_outcome EndsEarly = refused 40
-decoding_outcome OverLimit = refused 41
-decoding_outcome Duplicate = refused 42
-
--- the refusal number; 0 where it is accepted
-abbrev pub decoding_number : Decoding → ℕ
-decoding_number answer = either (λ n. n) (λ n. 0) (decoding_outcome answer)
-
--- the bytes consumed; 0 where it is refused
-abbrev pub decoding_consumed : Decoding → ℕ
-decoding_consumed answer = either (λ n. 0) (λ n. n) (decoding_outcome answer)
 
 -- what decoding comes to: a number, or the bytes consumed; and the rows
 pub record DecodeOutcome : Type 0 where
   pub answer : Outcome ℕ
   pub table : Table
 
--- the same of what `decode` answers
-abbrev pub decode_outcome : Decoded → DecodeOutcome
-decode_outcome d = record { answer = decoding_outcome d.answer; table = d.table }
+-- the same of what `decode` answers: no rows beside a refusal
+abbrev pub decode_outcome : Result Decoded Refusal → DecodeOutcome
+decode_outcome (Ok d) = record { answer = done d.consumed; table = d.table }
+decode_outcome (Err r) = record { answer = refused (number r); table = table_of [] }
 
 -- what stands at a position: too little, or a whole row and where it ends
 pub data Got : Type 0 where
@@ -55,6 +39,11 @@ reinstate_at s p =
     pick (stand_at (36 + le_at 4 s (p + 32)) s p)
     (got (reinstated (part p 32 s) (p + 36) (le_at 4 s (p + 32))) (p + (36 + le_at 4 s (p + 32)))) short
 
+-- what reading it answers: the row and where it ends
+abbrev pub entry : Got → Result (Row × ℕ) Refusal
+entry short = Err EndsEarly
+entry (got r q) = Ok (r, q)
+
 -- a reading: the rows as they are read in full, and how it ends
 pub data Reading : Type 0 where
   ends : Outcome ℕ → Reading
@@ -65,10 +54,10 @@ abbrev pub entered : Got → (ℕ → Reading) → Reading
 entered short next = ends (refused 40)
 entered (got r q) next = row r (next q)
 
--- where a count is whole, what follows it; else the input ends early
-abbrev pub counted : U32At → (ℕ → Reading) → Reading
-counted Short next = ends (refused 40)
-counted (Value n) next = next n
+-- where a count is whole, what follows it, and where a group is, what follows its end; else the reading ends with the refusal
+abbrev pub onward : Outcome ℕ → (ℕ → Reading) → Reading
+onward (done n) next = next n
+onward (refused e) next = ends (refused e)
 
 -- n rows from p on, and what follows them
 unfoldable pub group : (ℕ → Got) → ℕ → ℕ → (ℕ → Reading) → Reading
@@ -78,20 +67,16 @@ group at (suc n) p next = entered (at p) (λ q. group at n q next)
 -- the reinstate count, which may not pass the limit with the erase count n, and its rows; then all is consumed
 unfoldable pub reinstates : ℕ → List ℕ → ℕ → ℕ → Reading
 reinstates most s n p =
-    counted (u32_at s p) (λ m. pick (ltb most (n + m)) (ends (refused 41)) (group (reinstate_at s) m (p + 4) (λ q. ends (done q))))
+    onward (number_at 4 s p) (λ m. pick (ltb most (n + m)) (ends (refused 41)) (group (reinstate_at s) m (p + 4) (λ q. ends (done q))))
 
 -- the erase count, which may not pass the limit, and its rows; then the reinstate group
 unfoldable pub reading : ℕ → List ℕ → Reading
-reading most s = counted (u32_at s 0) (λ n. pick (ltb most n) (ends (refused 41)) (group (erase_at s) n 4 (λ p. reinstates most s n p)))
+reading most s = onward (number_at 4 s 0) (λ n. pick (ltb most n) (ends (refused 41)) (group (erase_at s) n 4 (λ p. reinstates most s n p)))
 
 -- in reading order: a row that is whole and has the key of an earlier one is refused; else the rows and how the reading ends
 unfoldable pub walk : List Row → Reading → Outcome ℕ × List Row
 walk seen (ends e) = (e, seen)
 walk seen (row r next) = pick (has row_key r.key seen) (refused 42, []) (walk (seen ++ (r ∷ [])) next)
-
--- an answer of `decode` with no rows
-abbrev pub refused_of : Decoding → Decoded
-refused_of e = record { answer = e; table = table_of [] }
 
 -- accepted: the rows in ascending key order; a refusal: no rows
 abbrev pub answered : Outcome ℕ → List Row → DecodeOutcome
@@ -107,24 +92,19 @@ unfoldable pub prepend : List Row → Reading → Reading
 prepend [] w = w
 prepend (r ∷ rs) w = row r (prepend rs w)
 
--- what follows the end of a group: `next` from its position on, or nothing after a refusal
-abbrev pub onward : Outcome ℕ → (ℕ → Reading) → Reading
-onward (done p) next = next p
-onward (refused n) next = ends (refused n)
-
 -- a position inside a slice of `size` bytes
 abbrev pub Inside : ℕ → Outcome ℕ → Type 0
 Inside size (done p) = p ≤ size
 Inside size (refused n) = Unit {0}
 
 -- reading a group behind earlier rows: the table has the earlier rows and the group's, whatever follows
-pub record Reads (size most : ℕ) (before : List Row) (rest : (ℕ → Reading) → Reading) (r : Read) : Type 0 where
-  pub same : (next : ℕ → Reading) → prepend before (rest next) ≡ prepend (rows_of r.table) (onward (decoding_outcome r.answer) next)
-  pub inside : Inside size (decoding_outcome r.answer)
-  pub room : r.table.count ≤ most
-  pub plain : Plain r.table
+pub record Reads (size most : ℕ) (before : List Row) (rest : (ℕ → Reading) → Reading) (answer : Result ℕ Refusal) (table : Table) : Type 0 where
+  pub same : (next : ℕ → Reading) → prepend before (rest next) ≡ prepend (rows_of table) (onward (outcome answer) next)
+  pub inside : Inside size (outcome answer)
+  pub room : table.count ≤ most
+  pub plain : Plain table
 
 -- reading both groups: the table has the rows read in full, and the answer is how the reading ended
-pub record WholeRead (most : ℕ) (s : List ℕ) (r : Read) : Type 0 where
-  pub same : reading most s ≡ prepend (rows_of r.table) (ends (decoding_outcome r.answer))
-  pub plain : Plain r.table
+pub record WholeRead (most : ℕ) (s : List ℕ) (answer : Result ℕ Refusal) (table : Table) : Type 0 where
+  pub same : reading most s ≡ prepend (rows_of table) (ends (outcome answer))
+  pub plain : Plain table
