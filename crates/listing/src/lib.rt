@@ -15,22 +15,11 @@ use segment::ImageRow;
 pub fn images_of(log: Log) -> Rows
     ensures { result ≡ images_of log }
 {
-    let none = ImageRow {
-        id: 0,
-        slot: 0,
-        size: 0,
-    };
-    let mut rows = [none; 64];
-    let mut i: usize = 0;
-    while i < 64 {
-        let segment = log.segs[i];
-        rows[i] = ImageRow {
-            id: segment.id,
-            slot: segment.slot,
-            size: segment.size,
-        };
-        i += 1;
-    }
+    let rows = log.segs.map(|segment| ImageRow {
+        id: segment.id,
+        slot: segment.slot,
+        size: segment.size,
+    });
     Rows {
         count: log.count,
         rows,
@@ -41,9 +30,9 @@ pub fn images_of(log: Log) -> Rows
 pub fn kept(log: Log, out: &mut [u8], at: usize) -> usize
     ensures { Put at (kept_line log.count log.start log.end) out.old result out.new }
 {
-    let count = text::put_named(&mut *out, at, b"kept ", log.count as u64);
-    let start = text::put_named(&mut *out, count, b" live ", log.start);
-    let end = text::put_named(&mut *out, start, b" ", log.end);
+    let count = text::put_named(out, at, b"kept ", log.count as u64);
+    let start = text::put_named(out, count, b" live ", log.start);
+    let end = text::put_named(out, start, b" ", log.end);
     text::put(out, end, b"\n")
 }
 
@@ -51,42 +40,28 @@ pub fn kept(log: Log, out: &mut [u8], at: usize) -> usize
 pub fn row(id: u64, slot: u64, offset: u64, length: u64, out: &mut [u8], at: usize) -> usize
     ensures { Put at (row_words id slot offset length) out.old result out.new }
 {
-    let first = text::put_number(&mut *out, at, id);
-    let second = text::put_named(&mut *out, first, b" ", slot);
-    let third = text::put_named(&mut *out, second, b" ", offset);
+    let first = text::put_number(out, at, id);
+    let second = text::put_named(out, first, b" ", slot);
+    let third = text::put_named(out, second, b" ", offset);
     text::put_named(out, third, b" ", length)
 }
 
-// The row that begins at word i of an index, as a line from `at` on; where it ends.
-fn line(index: &[u64], i: usize, out: &mut [u8], at: usize) -> usize
-    requires { i + 4 ≤ length index.now }
-    ensures { Put at (row_line (drop i index.now)) out.old result out.new }
+// The row that four words of an index are, as a line from `at` on; where it ends.
+fn line(words: &[u64], out: &mut [u8], at: usize) -> usize
+    requires { length words.now ≡ 4 }
+    ensures { Put at (row_line words.now) out.old result out.new }
 {
-    let words = row(
-        index[i],
-        index[i + 1],
-        index[i + 2],
-        index[i + 3],
-        &mut *out,
-        at,
-    );
-    text::put(out, words, b"\n")
+    let end = row(words[0], words[1], words[2], words[3], out, at);
+    text::put(out, end, b"\n")
 }
 
 // The first `count` rows of an index, as far as it has them, a line each from `at` on; where they end.
 pub fn rows(index: &[u64], count: u64, out: &mut [u8], at: usize) -> usize
     ensures { Put at (row_lines count index.now) out.old result out.new }
 {
-    let mut end = text::put(&mut *out, at, b"");
-    let mut left = count;
-    let mut i: usize = 0;
-    while 0 < left {
-        if index.len() - i < 4 {
-            return end;
-        }
-        end = line(index, i, &mut *out, end);
-        i += 4;
-        left -= 1;
+    let mut end = text::put(out, at, b"");
+    for words in index.chunks_exact(4).take(count as usize) {
+        end = line(words, out, end);
     }
     end
 }

@@ -2,29 +2,16 @@
 // A number is put as its decimal digits. Assumes nothing.
 #![tactic(auto)]
 
-ghost use Rattle.std.specs.Prelude.{◌≡◌, ◌++◌, ◌+◌, ◌<◌, min, length, drop};
+ghost use Rattle.std.specs.Prelude.{◌≡◌, ◌++◌, ◌<◌, drop};
 ghost use Rattle.text.specs.Decimal.{decimal_of};
 ghost use Rattle.text.specs.Texts.{Put};
-
-// The end of n bytes from `at` on, in a buffer of `room` bytes.
-fn end_of(room: usize, at: usize, n: usize) -> usize
-    ensures { result ≡ min room (at + n) }
-{
-    if room <= at {
-        return room;
-    }
-    if room - at <= n {
-        return room;
-    }
-    at + n
-}
 
 // Writes the bytes from `at` on; where they end.
 pub fn put(out: &mut [u8], at: usize, bytes: &[u8]) -> usize
     ensures { Put at bytes.now out.old result out.new }
 {
-    lists::copy_into(&mut *out, at, bytes);
-    end_of(out.len(), at, bytes.len())
+    lists::copy_into(out, at, bytes);
+    at.saturating_add(bytes.len()).min(out.len())
 }
 
 // Puts the decimal digits of v at the end of 20 bytes, the last one first; where they begin.
@@ -32,22 +19,22 @@ fn digits_into(v: u64, digits: &mut [u8; 20]) -> usize
     ensures begins { result < 20 }
     ensures digits { drop result digits.new ≡ decimal_of v }
 {
-    let mut i: usize = 19;
     let mut rest = v;
-    while 10 <= rest {
+    for i in (0..20).rev() {
         digits[i] = b'0' + (rest % 10) as u8;
         rest /= 10;
-        i -= 1;
+        if rest == 0 {
+            return i;
+        }
     }
-    digits[i] = b'0' + rest as u8;
-    i
+    0
 }
 
 // Writes a number in decimal from `at` on; where it ends.
 pub fn put_number(out: &mut [u8], at: usize, v: u64) -> usize
     ensures { Put at (decimal_of v) out.old result out.new }
 {
-    let mut digits = [0u8; 20];
+    let mut digits = [0; 20];
     let begin = digits_into(v, &mut digits);
     put(out, at, &digits[begin..])
 }
@@ -56,6 +43,6 @@ pub fn put_number(out: &mut [u8], at: usize, v: u64) -> usize
 pub fn put_named(out: &mut [u8], at: usize, word: &[u8], v: u64) -> usize
     ensures { Put at (word.now ++ decimal_of v) out.old result out.new }
 {
-    let end = put(&mut *out, at, word);
+    let end = put(out, at, word);
     put_number(out, end, v)
 }

@@ -1,11 +1,11 @@
--- `listing::rows`: what is still to be put is the lines of the `left` rows from word i on.
+-- `listing::rows`: a line for each row that is left makes the whole text.
 -- Assumes nothing.
+use Rattle.std.proofs.Common.{◌≡◌}
 use Rattle.listing.specs.Lines.{row_lines}
 use Rattle.listing.proofs.Lines.{Rest}
 use Rattle.listing.proofs.rows.Given as goal
 
-abbrev pub invariant-loop-left : goal.invariant-loop-left
-invariant-loop-left l = Rest l.initial.end (row_lines l.count l.index) l.initial.out l.index l.end l.left l.i l.out
-
-abbrev pub decreases-loop-left : goal.decreases-loop-left
-decreases-loop-left l = l.left
+abbrev pub invariant-loop-words : goal.invariant-loop-words
+invariant-loop-words l =
+    (l.words-iterator.iter.size ≡ 4)
+    × Rest l.initial.end (row_lines l.count l.index) l.initial.out l.end l.words-iterator.n l.words-iterator.iter.rest.now l.out

@@ -3,8 +3,5 @@
 use Rattle.text.proofs.DecimalDigits.{Placed}
 use Rattle.text.proofs.digits_into.Given as goal
 
-abbrev pub invariant-loop-rest : goal.invariant-loop-rest
-invariant-loop-rest l = Placed l.v l.rest l.i l.digits
-
-abbrev pub decreases-loop-rest : goal.decreases-loop-rest
-decreases-loop-rest l = l.rest
+abbrev pub invariant-loop-i : goal.invariant-loop-i
+invariant-loop-i l = Placed l.v l.rest l.i l.digits
