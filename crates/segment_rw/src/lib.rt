@@ -16,25 +16,6 @@ struct SegmentWriter {
     size: u64,
 }
 
-// Whether a record of n payload bytes has its place in `room` bytes behind `size` of a slot of c bytes, in an area of `bytes` bytes.
-fn fits_slot(c: u64, slot: u32, size: u64, room: u64, n: usize, bytes: usize) -> bool
-    ensures { result ≡ fits_slot c slot size room n bytes }
-{
-    if (MAX_RECORD_PAYLOAD_SIZE as usize) < n {
-        return false;
-    }
-    if room < HEADER_SIZE as u64 + n as u64 {
-        return false;
-    }
-    if c < room {
-        return false;
-    }
-    if c - room < size {
-        return false;
-    }
-    segment::slot_inside(c, slot, bytes)
-}
-
 // Header, payload and zeros, from `at` on, `room` bytes in all. The header writer is lent the slot, which ends at `end`, from `at` on.
 fn put_record(area: &mut [u8], at: usize, end: usize, room: usize, id: u64, payload: &[u8])
     requires { PutPre at end room (length payload.now) (length area.old) }
@@ -52,43 +33,39 @@ fn put_record(area: &mut [u8], at: usize, end: usize, room: usize, id: u64, payl
     lists::zero_fill(area, at + HEADER_SIZE + n, at + room);
 }
 
-// Writes the record where it fits; the segment's size afterwards.
-fn write_at(
-    area: &mut [u8],
-    c: u64,
-    slot: u32,
-    size: u64,
-    room: u64,
-    id: u64,
-    payload: &[u8],
-) -> u64
-    ensures { Wrote c slot size room id payload.now area.old result area.new }
-{
-    if !fits_slot(c, slot, size, room, payload.len(), area.len()) {
-        return size;
+impl SegmentWriter {
+    // Whether a record of n payload bytes has its place in `room` bytes behind the size, in slots of c bytes of an area of `bytes` bytes.
+    #[tactic(auto, unfolding(crate::specs::Writer::fits_slot))]
+    fn fits(self, c: u64, room: u64, n: usize, bytes: usize) -> bool
+        ensures { result ≡ fits_slot c self.slot self.size room n bytes }
+    {
+        n <= MAX_RECORD_PAYLOAD_SIZE as usize
+            && HEADER_SIZE as u64 + n as u64 <= room
+            && room <= c
+            && self.size <= c - room
+            && segment::slot_inside(c, self.slot, bytes)
     }
-    let from = slot as u64 * c;
-    put_record(
-        area,
-        (from + size) as usize,
-        (from + c) as usize,
-        room as usize,
-        id,
-        payload,
-    );
-    size + room
-}
 
-// The same through the writer, which is lent: the new size is stored once header and payload are written.
-fn write_record(w: &mut SegmentWriter, area: &mut [u8], c: u64, room: u64, id: u64, payload: &[u8])
-    ensures { (w.new ≡ written_by w.old c room (length payload.now) (length area.old))
-        × (area.new ≡ area_after c w.old.slot w.old.size room id payload.now
-        area.old) }
-{
-    let slot = w.slot;
-    let size = w.size;
-    let next = write_at(area, c, slot, size, room, id, payload);
-    w.size = next;
+    // Writes the record where it fits: the new size is stored once header and payload are written.
+    #[tactic(auto, unfolding(crate::specs::Writer::fits_slot, crate::specs::Writer::size_after, crate::specs::Writer::area_after))]
+    fn write_record(&mut self, area: &mut [u8], c: u64, room: u64, id: u64, payload: &[u8])
+        ensures size { self.new ≡ written_by self.old c room (length payload.now) (length area.old) }
+        ensures bytes { area.new ≡ area_after c self.old.slot self.old.size room id payload.now area.old }
+    {
+        if !self.fits(c, room, payload.len(), area.len()) {
+            return;
+        }
+        let from = u64::from(self.slot) * c;
+        put_record(
+            area,
+            (from + self.size) as usize,
+            (from + c) as usize,
+            room as usize,
+            id,
+            payload,
+        );
+        self.size += room;
+    }
 }
 
 // Writes a record behind the first `size` bytes of a segment's slot, where it fits; the segment's size afterwards.
@@ -104,6 +81,6 @@ pub fn append_record(
     ensures { Wrote c slot size room id payload.now area.old result area.new }
 {
     let mut w = SegmentWriter { slot, size };
-    write_record(&mut w, area, c, room, id, payload);
+    w.write_record(area, c, room, id, payload);
     w.size
 }
