@@ -1,33 +1,30 @@
 -- Refusal 2 taken apart: what each of its tests says, and the ways of the code through them.
 -- Assumes nothing.
 use mathlib.Core.Path.{◌≡◌, refl, sym, ap, ◌∙◌}
-use mathlib.Core.List.{List, ◌∷◌}
+use mathlib.Core.List.{List}
 use mathlib.Core.Bool.{Bool, true, false, ◌&&◌}
-use Prim.Native.Nat.{ℕ, ◌+◌, ◌-◌, ◌*◌, ◌%◌, ◌≤◌, ◌<◌}
+use Prim.Native.Nat.{ℕ, ◌+◌, ◌*◌, ◌%◌, ◌≤◌, ◌<◌}
 use native.Mathlib.Nat.{mul-le-mul}
 use native.Mathlib.Omega.{arith}
 use mir.Syntax.{w64}
 use mir.Val.{Fits}
-use lib.ListN.{length, get_or, take, drop}
-use lib.Seq.{drop-cons}
+use lib.ListN.{length, take, drop}
 use lib.Dec.{eqb, leb, ltb}
-use borrow.Author.Tests.{le-leb, leb-true, lt-ltb, ltb-true, eq-eqb, eqb-true, eqb-false}
-use Rattle.lists.specs.Choice.{pick}
-use Rattle.lists.proofs.Cases.{by-test}
+use borrow.Author.Tests.{le-leb, leb-true, lt-ltb, ltb-true, eq-eqb, eqb-true}
 use Rattle.segment.specs.declared.Segment.{Segment}
 use Rattle.seglog.specs.declared.Log.{Log}
-use Rattle.seglog.specs.View.{View, log_of, view_of, head_of, zeros_of, plain_of}
+use Rattle.seglog.specs.View.{View, log_of, view_of, zeros_of, plain_of}
 use Rattle.seglog.specs.Chain.{newest_of, seg_of, goes_on, chain_of, ends_of, slots_apart}
 use Rattle.seglog.specs.Fit.{sizes_of, shaped_of, fits_of, fitting_of}
-use Rattle.segment.specs.Segment.{no_segment, slot_number}
+use Rattle.segment.specs.Segment.{slot_number}
 use Rattle.segment.specs.Chain.{NewestFits}
 use Rattle.seglog.specs.New.{roomy_of}
 use Rattle.seglog.specs.Shape.{SizesObey}
 use Rattle.lists.proofs.Bools.{both_ways, and_both, both-and, not_so, same_test}
-use Rattle.lists.specs.Each.{all, linked}
+use Rattle.lists.specs.Each.{Every, all, linked}
 use Rattle.lists.proofs.Each.{all-every}
 use Rattle.lists.proofs.Distinct.{Below}
-use Rattle.seglog.proofs.View.{plain-log, view-log, listed-length, listed_at, listed-head}
+use Rattle.seglog.proofs.View.{plain-log, view-log, listed-length}
 
 -- ---- K, C and M
 
@@ -152,6 +149,13 @@ unfolding chain_of
 chain-below k c gs h =
     all-every (seg_of k c) (λ g. g.slot < k) (λ g q. (seg-is k c g q).slot) gs (and_both (all (seg_of k c) gs) (linked goes_on gs) h).0
 
+-- of 64 slots at most
+pub chain-few : (k c m : ℕ) (gs : List Segment) → SizesObey k c m → chain_of k c gs ≡ true → Every (λ (g : Segment). g.slot < 64) gs
+unfolding chain_of
+chain-few k c m gs s h =
+    all-every (seg_of k c) (λ (g : Segment). g.slot < 64) (λ g q. omega (arith, (seg-is k c g q).slot, s.few-slots)) gs
+    (and_both (all (seg_of k c) gs) (linked goes_on gs) h).0
+
 -- ---- the whole test
 
 -- a log that fits an area of n bytes, test by test
@@ -229,13 +233,10 @@ module _ (l : Log) (n : ℕ) (long : length l.segs ≡ 64) where
       (both-and (roomy_of l.k l.c l.m n) (leb l.count l.k) (is-roomy l.k l.c l.m n f.sizes f.area)
       (le-leb l.count l.k f.few)) h)
 
-  -- a dirty entry
-  pub fit-dirty : false ≡ zeros_of (drop l.count l.segs) → false ≡ fitting_of l n
-  fit-dirty h = no-fit (λ f. both_ways _ f.zeros (sym h))
-
-  -- segments that do not go on from each other, or share a slot
-  pub fit-listed : false ≡ chain_of l.k l.c gs && slots_apart gs → false ≡ fitting_of l n
-  fit-listed h = no-fit (λ f. both_ways _ (both-and (chain_of l.k l.c gs) (slots_apart gs) f.chain f.apart) (sym h))
+  -- an unused entry is dirty, or the listed segments do not go on from each other, or share a slot
+  pub fit-listed : zeros_of (drop l.count l.segs) && chain_of l.k l.c gs && slots_apart gs ≡ false → false ≡ fitting_of l n
+  fit-listed h =
+      no-fit (λ f. both_ways _ (both-and _ (slots_apart gs) (both-and _ (chain_of l.k l.c gs) f.zeros f.chain) f.apart) h)
 
 -- what the numbers of a log tell
 pub record Sized (l : Log) (n : ℕ) : Type 0 where
@@ -256,12 +257,12 @@ pub sized-count : (l : Log) (n : ℕ) → Sized l n → l.count ≤ 64
 sized-count l n s = omega (arith, s.few, s.sizes.few-slots)
 
 -- the last test decides
-pub fit-ends : (l : Log) (n : ℕ) (b : Bool) → Sized l n → zeros_of (drop l.count l.segs) ≡ true
-    → true ≡ chain_of l.k l.c (take l.count l.segs) && slots_apart (take l.count l.segs)
-    → b ≡ ends_of l.start l.end (take l.count l.segs) → b ≡ fitting_of l n
-fit-ends l n b s zeros listed e =
+pub fit-ends : (l : Log) (n : ℕ) (b : Bool) → Sized l n
+    → zeros_of (drop l.count l.segs) && chain_of l.k l.c (take l.count l.segs) && slots_apart (take l.count l.segs) ≡ true → b ≡ ends_of l.start l.end (take l.count l.segs) → b ≡ fitting_of l n
+fit-ends l n b s listed e =
     let gs : List Segment = take l.count l.segs in
-    let both = and_both (chain_of l.k l.c gs) (slots_apart gs) (sym listed) in
+    let t = and_both (zeros_of (drop l.count l.segs) && chain_of l.k l.c gs) (slots_apart gs) listed in
+    let u = and_both (zeros_of (drop l.count l.segs)) (chain_of l.k l.c gs) t.0 in
     same_test b (fitting_of l n)
     (λ q.
     is-fitting l n s.long
@@ -269,9 +270,9 @@ fit-ends l n b s zeros listed e =
       sizes = s.sizes;
       few = s.few;
       area = s.area;
-      zeros = zeros;
-      chain = both.0;
-      apart = both.1;
+      zeros = u.0;
+      chain = u.1;
+      apart = t.1;
       ends = sym e ∙ q;
     }))
     (λ q. e ∙ (fitting-is l n s.long q).ends)
@@ -295,31 +296,3 @@ module _ (v : View) (sizes : SizesObey v.k v.c v.m) (few : length v.segs ≤ v.k
         ap shaped_of (view-log v) ∙ h,
         eq-eqb n (v.k * v.c) e,
       )
-
--- ---- the two ends
-
--- the ends, as the code has them
-pub ends_by : (l : Log) (n last : ℕ) → Sized l n → last ≡ l.count - 1
-    → pick (eqb l.count 0) (eqb l.start 0 && eqb l.end 0)
-    (leb (get_or l.segs 0 no_segment).min l.start && leb l.start (get_or l.segs 0 no_segment).max
-    && eqb ((get_or l.segs last no_segment).size % 4096) 0 && eqb (get_or l.segs last no_segment).max l.end)
-    ≡ ends_of l.start l.end (take l.count l.segs)
-unfolding ends_of
-ends_by l n last s at_last =
-    by-test (eqb l.count 0)
-    (λ e. let z = eqb-true l.count 0 e in simp e (rw z refl))
-    (λ e.
-    let some : 0 < l.count = let z = eqb-false l.count 0 e in omega arith in
-    let few = sized-count l n s in
-    let gs : List Segment = take l.count l.segs in
-    let first : gs ≡ get_or l.segs 0 no_segment ∷ drop 1 gs =
-    drop-cons gs 0 no_segment (rw (listed-length l.count l.segs s.long few) some)
-    ∙ ap (λ (g : Segment). g ∷ drop 1 gs) (listed_at l.count l.segs s.long few 0 some) in
-    let head : head_of (get_or l.segs 0 no_segment ∷ drop 1 gs) ≡ get_or l.segs last no_segment =
-    ap (λ (x : List Segment). head_of x) (sym first) ∙ listed-head l.count l.segs s.long few some
-    ∙ ap (λ (j : ℕ). get_or l.segs j no_segment) (sym at_last) in
-    simp e
-    (sym (ap (ends_of l.start l.end) first
-    ∙ ap (λ (x : Segment).
-    leb (get_or l.segs 0 no_segment).min l.start && leb l.start (get_or l.segs 0 no_segment).max && eqb (x.size % 4096) 0
-    && eqb x.max l.end) head)))

@@ -1,7 +1,8 @@
 pub mod Bounds
 pub mod View
 pub mod Fit
-pub mod FitTurns
+pub mod Slots
+pub mod Listed
 pub mod New
 pub mod Chain
 pub mod Shaped

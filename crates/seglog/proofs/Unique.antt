@@ -8,7 +8,6 @@ use Rattle.seglog.proofs.sizes_fit.Reads as sizes-fit
 use Rattle.seglog.proofs.fits.Reads as fits
 use Rattle.seglog.proofs.empty_log.Reads as empty-log
 use Rattle.seglog.proofs.new_log.Reads as new-log
-use Rattle.seglog.proofs.last_of.Reads as last_of
 use Rattle.seglog.proofs.live_range.Reads as live-range
 
 pub sizes-fit-unique : UniqueAnswer sizes-fit.Learnt
@@ -25,6 +24,3 @@ new-log-unique κs a r r' e e' p q = (logged-unique zero_log r r' (p.0 ∙ sym q
 
 pub live-range-unique : UniqueAnswer live-range.Learnt
 live-range-unique κs a r r' e e' = unique
-
-pub last-of-unique : UniqueAnswer last_of.Learnt
-last-of-unique κs a r r' e e' = unique

@@ -2,10 +2,10 @@
 // Here: whether it is well shaped, a new log, the live range. append stands in seglog_append, the prunes in seglog_prune.
 #![tactic(auto)]
 
-ghost use Rattle.std.specs.Prelude.{◌≡◌, ◌&&◌, ◌||◌, ◌+◌, ◌-◌, ◌%◌, length, eqb, leb};
-ghost use Rattle.lists.specs.Choice.{pick};
-ghost use Rattle.seglog.specs.View.{zero_of, empty_of, log_of, zero_log};
-ghost use Rattle.seglog.specs.Chain.{newest_of, seg_of, goes_on};
+ghost use Rattle.std.specs.Prelude.{◌≡◌, ◌<◌, ◌&&◌, length, leb};
+ghost use Rattle.lists.specs.Each.{Every};
+ghost use Rattle.seglog.specs.View.{zero_of, zeros_of, empty_of, log_of, zero_log};
+ghost use Rattle.seglog.specs.Chain.{newest_of, seg_of, goes_on, chain_of, slots_apart, ends_of};
 ghost use Rattle.seglog.specs.Fit.{sizes_of, fitting_of};
 ghost use Rattle.seglog.specs.New.{roomy_of, new_of, logged, range_of};
 
@@ -60,7 +60,7 @@ fn sizes_good(shape: Shape) -> bool
 fn is_zero(g: Segment) -> bool
     ensures { result ≡ zero_of g }
 {
-    g.id == 0 && g.slot == 0 && g.size == 0 && g.min == 0 && g.max == 0 && g.newest_at == 0
+    g == no_segment()
 }
 
 // Whether a segment of `size` bytes may have its newest record at `at`; `at + 12`, which may not fit, is not formed.
@@ -109,36 +109,53 @@ fn numbers_good(shape: Shape, count: usize, bytes: usize) -> bool
     sizes_fit(shape, bytes) && count as u64 <= shape.k
 }
 
-// What is asked of a listed segment g: good by itself, and the one listed after it, if any, goes on from it.
-fn listed_good(shape: Shape, g: Segment, last: bool, later: Segment) -> bool
-    ensures { result ≡ (seg_of shape.k shape.c g && (last || goes_on g later)) }
+// Whether every field of each entry is 0.
+fn all_zero(entries: &[Segment]) -> bool
+    ensures { result ≡ zeros_of entries.now }
 {
-    segment_good(shape, g) && (last || follows(g, later))
+    entries.iter().all(|g| is_zero(*g))
+}
+
+// What is asked of the listed segments: each good by itself, and going on from the one before it.
+fn chain_good(shape: Shape, listed: &[Segment]) -> bool
+    ensures { result ≡ chain_of shape.k shape.c listed.now }
+{
+    listed.iter().all(|g| segment_good(shape, *g)) && listed.is_sorted_by(|g, h| follows(*g, *h))
+}
+
+// Whether no slot is listed twice, with a mark for each one seen.
+fn slots_good(listed: &[Segment]) -> bool
+    requires { Every (λ g. g.slot < 64) listed.now }
+    ensures { result ≡ slots_apart listed.now }
+{
+    let mut used = [false; 64];
+    for g in listed {
+        let slot = g.slot as usize;
+        if used[slot] {
+            return false;
+        }
+        used[slot] = true;
+    }
+    true
 }
 
 // The live range begins in the first segment and ends with the last, which ends with a page; (0, 0) where there is no segment.
-fn ends_good(start: u64, end: u64, count: usize, first: Segment, last: Segment) -> bool
-    ensures { result ≡ pick (eqb count 0) (eqb start 0 && eqb end 0)
-        (leb first.min start && leb start first.max && eqb (last.size % 4096) 0 && eqb last.max end) }
+#[tactic(auto, unfolding(crate::specs::Chain::ends_of))]
+fn ends_good(start: u64, end: u64, listed: &[Segment]) -> bool
+    ensures { result ≡ ends_of start end listed.now }
 {
-    if count == 0 {
-        return start == 0 && end == 0;
+    match (listed.first(), listed.last()) {
+        (Some(first), Some(last)) => {
+            first.min <= start
+                && start <= first.max
+                && last.size % PAGE_SIZE == 0
+                && last.max == end
+        }
+        _ => start == 0 && end == 0,
     }
-    first.min <= start && start <= first.max && last.size % PAGE_SIZE == 0 && last.max == end
 }
 
-// The place of the last of n entries; 0 where there is none.
-pub fn last_of(n: usize) -> usize
-    ensures { result ≡ n - 1 }
-{
-    if n == 0 {
-        return 0;
-    }
-    n - 1
-}
-
-// Whether the log is well shaped and the area has K x C bytes: not refusal 2. The listed entries are gone through from the last to the
-// first, with a mark for each slot seen. Both loops stand here, so that the log is not copied for them.
+// Whether the log is well shaped and the area has K x C bytes: not refusal 2.
 pub fn fits(log: Log, bytes: usize) -> bool
     ensures { result ≡ fitting_of log bytes }
 {
@@ -150,32 +167,11 @@ pub fn fits(log: Log, bytes: usize) -> bool
     if !numbers_good(shape, log.count, bytes) {
         return false;
     }
-    let mut unused: usize = log.count;
-    while unused < 64 {
-        if !is_zero(log.segs[unused]) {
-            return false;
-        }
-        unused += 1;
-    }
-    let mut used = [0u8; 64];
-    let mut later = no_segment();
-    let mut i: usize = log.count;
-    while 0 < i {
-        let at = i - 1;
-        let g = log.segs[at];
-        if !listed_good(shape, g, i == log.count, later) {
-            return false;
-        }
-        let slot = g.slot as usize;
-        if used[slot] != 0 {
-            return false;
-        }
-        used[slot] = 1;
-        later = g;
-        i = at;
-    }
-    let at = last_of(log.count);
-    ends_good(log.start, log.end, log.count, log.segs[0], log.segs[at])
+    let (listed, unused) = log.segs.split_at(log.count);
+    all_zero(unused)
+        && chain_good(shape, listed)
+        && slots_good(listed)
+        && ends_good(log.start, log.end, listed)
 }
 
 // A log with no segments, whatever the numbers.
