@@ -1,6 +1,6 @@
 -- An array of marks that tells the slots that were seen: none at first, one segment's more, and what a mark says of a segment's slot.
 -- Assumes nothing.
-use mathlib.Core.Path.{◌≡◌, refl, sym, ap, ◌∙◌}
+use mathlib.Core.Path.{◌≡◌, refl, sym, ap, subst, ◌∙◌}
 use mathlib.Core.Bool.{Bool, true, false, ◌&&◌, not}
 use mathlib.Core.List.{List, [], ◌∷◌, ◌++◌}
 use Prim.Native.Nat.{ℕ, ◌+◌, ◌≤◌, ◌<◌}
@@ -107,3 +107,6 @@ module _ (used : List Bool) (gs : List Segment) (i : ℕ) (inside : i < length g
 -- all have been seen
 pub apart_all : (used : List Bool) (gs : List Segment) (i : ℕ) → length gs ≤ i → Apart used gs i → slots_apart gs ≡ true
 apart_all used gs i h a = ap slots_apart (sym (take_all i gs h)) ∙ a.apart
+
+pub marked_all : (used : List Bool) (gs : List Segment) (i : ℕ) → length gs ≤ i → Marked used (take i gs) → Marked used gs
+marked_all used gs i h m = subst (λ (l : List Segment). Marked used l) (take_all i gs h) m

@@ -2,6 +2,9 @@
 -- Assumes nothing.
 use Rattle.std.proofs.Common.{◌≡◌, ℕ, ◌+◌, ◌-◌, ◌*◌, ◌%◌, ◌^◌, ◌<◌, ◌≤◌, Bool, true, false, not, ◌&&◌, eqb, ltb, leb, List, [], ◌∷◌, ◌++◌, length, get_or, take, drop, set, sym, refl, ap, ◌∙◌, subst, arith, length-take, ltb-false, le-ltb, lt-ltb, eq-eqb, ne_eqb, eqb-true}
 use borrow.Author.Tests.{eqb-false, not-false}
+use Rattle.std.specs.Prelude.{Option, Some, None, Ok, Err}
+use Rattle.std.specs.Option.{ok_or}
+use Rattle.refusal.specs.declared.Refusal.{Refusal}
 use Rattle.lists.specs.Choice.{pick}
 use Rattle.lists.specs.Outcome.{Outcome, refused, done}
 use Rattle.lists.proofs.Bools.{clash, and_both, both-and}
@@ -20,7 +23,7 @@ use Rattle.seglog.proofs.View.{log-view, entries_of, set-head, set_new, ends-wit
 use Rattle.seglog.proofs.Fit.{SegmentGood, Fitting, fitting-is, chain-below}
 use Rattle.seglog.proofs.Chain.{snoc-chain, zeros-at}
 use Rattle.seglog_append.specs.declared.Place.{Place}
-use Rattle.seglog_append.specs.Deciding.{lowest_free, opens_of, next_id, fresh_of, target_of, before_of, place_of, decide_of, decide_log}
+use Rattle.seglog_append.specs.Deciding.{lowest_free, free_slot, opens_of, next_id, fresh_of, target_of, before_of, place_of, decide_of, decide_log}
 use Rattle.seglog_append.specs.Promised.{AppendRefuses5, AppendRefuses7}
 use Rattle.seglog_append.proofs.DecidingFree.{free-most, free-good}
 
@@ -166,6 +169,25 @@ module _ (l : Log) (bytes n : ℕ) (k : Past l bytes n) where
         (λ j. done (record { target = chosen.target j; at = chosen.index j; room = e j }))
         ∙ sym (passed l bytes n k.fits k.small k.more
         ∙ simp (chosen.id-good, chosen.slot-free, le-ltb (l.c - (target_of (view_of l)).size) (record_room n) (omega (arith, same_size))))
+
+-- ---- the slot of a new segment
+
+module _ (a : View) (r : Option ℕ) (e : Refusal) (h : r ≡ free_slot a) where
+  -- one is found: it is the lowest, and one of the K
+  pub slot-found : (s : ℕ) → ok_or r e ≡ Ok s → (s ≡ lowest_free a) × (s ≡ a.k → ⊥)
+  slot-found s q = go (eqb (lowest_free a) a.k) refl (sym (ap (λ (x : Option ℕ). ok_or x e) h) ∙ q)
+    where
+      go : (t : Bool) → eqb (lowest_free a) a.k ≡ t → ok_or (pick t None (Some (lowest_free a))) e ≡ Ok s → (s ≡ lowest_free a) × (s ≡ a.k → ⊥)
+      go true g q = cc
+      go false g q = let is : s ≡ lowest_free a = cc in (is, λ z. eqb-false (lowest_free a) a.k g (sym is ∙ z))
+
+  -- none is left
+  pub slot-refused : (d : Refusal) → ok_or r e ≡ Err d → (d ≡ e) × (lowest_free a ≡ a.k)
+  slot-refused d q = go (eqb (lowest_free a) a.k) refl (sym (ap (λ (x : Option ℕ). ok_or x e) h) ∙ q)
+    where
+      go : (t : Bool) → eqb (lowest_free a) a.k ≡ t → ok_or (pick t None (Some (lowest_free a))) e ≡ Err d → (d ≡ e) × (lowest_free a ≡ a.k)
+      go true g q = let is : d ≡ e = cc in (is, eqb-true (lowest_free a) a.k g)
+      go false g q = cc
 
 -- ---- a log that fits
 

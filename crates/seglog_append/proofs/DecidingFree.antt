@@ -1,17 +1,14 @@
--- The lowest free slot: it is free, and none before it is; and the turns of the two loops that look for it.
+-- The lowest free slot: it is free, and none before it is; and what a search through the slots finds.
 -- Assumes nothing.
-use Rattle.std.proofs.Common.{◌≡◌, ℕ, zero, suc, ◌+◌, ◌-◌, ◌*◌, ◌<◌, ◌≤◌, Bool, true, false, List, [], ◌∷◌, length, get_or, take, drop, set, sym, refl, ap, ◌∙◌, add-one, arith, drop_of_length-le, drop-cons}
+use Rattle.std.proofs.Common.{◌≡◌, ℕ, zero, suc, ◌+◌, ◌<◌, ◌≤◌, Bool, true, false, eqb, List, get_or, sym, refl, ◌∙◌, arith, eq-eqb, ne_eqb}
+use Rattle.std.specs.Prelude.{Option, Some, None, MatchOption}
 use Rattle.lists.specs.Choice.{pick}
+use Rattle.lists.proofs.Bools.{clash}
 use Rattle.lists.proofs.Cases.{by-test, by_order}
-use Rattle.lists.proofs.Distinct.{marks}
-use Rattle.lists.proofs.Each.{every-at}
 use Rattle.lists.specs.Distinct.{fresh}
 use Rattle.segment.specs.declared.Segment.{Segment}
-use Rattle.seglog.specs.declared.Log.{Log}
-use Rattle.seglog.specs.Fit.{fitting_of}
-use Rattle.segment.specs.Segment.{no_segment, slot_number}
-use Rattle.seglog.proofs.View.{listed-length, listed_at}
-use Rattle.seglog.proofs.Fit.{Fitting, fitting-is, chain-below}
+use Rattle.segment.specs.Segment.{slot_number}
+use Rattle.seglog.proofs.Slots.{Marked, marked-yes, marked-no}
 use Rattle.seglog_append.specs.Deciding.{free_from}
 use Rattle.seglog_append.specs.Promised.{FreeLowest}
 
@@ -51,87 +48,31 @@ free-taken gs (suc n) i j l h = go (fresh slot_number i gs) refl h (free-taken g
 pub free-lowest : FreeLowest
 free-lowest a = (λ h. free-good a.segs a.k 0 (omega arith), λ j h. free-taken a.segs a.k 0 j (omega arith) h)
 
--- ---- the loops
+-- ---- the search
 
--- the search begins at 0
-pub free-start : (k : ℕ) (gs : List Segment) → free_from k 0 gs ≡ free_from (k - 0) 0 gs
-free-start k gs = ap (λ (n : ℕ). free_from n 0 gs) (omega arith)
+module _ (k : ℕ) (gs : List Segment) where
+  -- the first of the K slots that is free is the lowest
+  free-first : (i : ℕ) → i < k → fresh slot_number i gs ≡ true → ((j : ℕ) → j < i → fresh slot_number j gs ≡ false) → free_from k 0 gs ≡ i
+  free-first i l it none =
+      let m : ℕ = free_from k 0 gs in
+      by_order i m
+      (λ h. by_order m i (λ g. omega arith) (λ g. clash (sym (free-taken gs k 0 i (omega arith) (omega arith)) ∙ it)))
+      (λ h. clash (sym (none m h) ∙ free-good gs k 0 (omega arith)))
 
--- the search from i on: a taken slot
-pub free-turn : (k i : ℕ) (gs : List Segment) → i < k → fresh slot_number i gs ≡ false
-    → free_from (k - i) i gs ≡ free_from (k - (i + 1)) (i + 1) gs
-unfolding free_from
-free-turn k i gs h q =
-    let n : k - i ≡ suc (k - (i + 1)) = omega arith in
-    ap (λ (j : ℕ). free_from j i gs) n ∙ simp q (ap (λ (j : ℕ). free_from (k - (i + 1)) j gs) (sym (add-one i)))
+  -- where none is, there is none
+  free-none : ((j : ℕ) → j < k → fresh slot_number j gs ≡ false) → free_from k 0 gs ≡ k
+  free-none none =
+      let most = free-most gs k 0 in
+      by_order k (free_from k 0 gs) (λ h. omega arith) (λ h. clash (sym (none _ h) ∙ free-good gs k 0 (omega arith)))
 
--- a free one
-pub free-found : (k i : ℕ) (gs : List Segment) → i < k → fresh slot_number i gs ≡ true → free_from (k - i) i gs ≡ i
-unfolding free_from
-free-found k i gs h q =
-    let n : k - i ≡ suc (k - (i + 1)) = omega arith in ap (λ (j : ℕ). free_from j i gs) n ∙ simp q
-
--- none is left
-pub free-none : (k i : ℕ) (gs : List Segment) → k ≤ i → free_from (k - i) i gs ≡ i
-unfolding free_from
-free-none k i gs h = let n : k - i ≡ 0 = omega arith in ap (λ (j : ℕ). free_from j i gs) n
-
--- a log that fits, the slots of its segments from i on marked
-pub record Marked (l : Log) (used : List ℕ) (i : ℕ) : Type 0 where
-  pub long : length l.segs ≡ 64
-  pub fit : Fitting l (l.k * l.c)
-  pub within : i ≤ l.count
-  pub marked : used ≡ marks slot_number 64 (drop i (take l.count l.segs))
-
-pub marked-none : (l : Log) (used : List ℕ) → length l.segs ≡ 64 → fitting_of l (l.k * l.c) ≡ true → used ≡ marks slot_number 64 []
-    → Marked l used l.count
-marked-none l used long h e =
-    let fit = fitting-is l (l.k * l.c) long h in
-    let n = listed-length l.count l.segs long (omega (arith, fit.few, fit.sizes.few-slots)) in
-    record {
-      long = long;
-      fit = fit;
-      within = omega arith;
-      marked = e ∙ ap (marks slot_number 64) (sym (drop_of_length-le (take l.count l.segs) {i = l.count} (omega arith)));
-    }
-
-module _ (l : Log) (used : List ℕ) (i : ℕ) (m : Marked l used i) where
-  abbrev gs : List Segment
-  gs = take l.count l.segs
-
-  few : l.count ≤ 64
-  few = omega (arith, m.fit.few, m.fit.sizes.few-slots)
-
-  module _ (more : 0 < i) where
-    abbrev g : Segment
-    g = get_or l.segs (i - 1) no_segment
-
-    at_g : get_or gs (i - 1) no_segment ≡ g
-    at_g = listed_at l.count l.segs m.long few (i - 1) (omega (arith, m.within))
-
-    -- the next segment's slot has a mark
-    pub marked-slot : g.slot < 64
-    marked-slot =
-        let b = every-at (λ (x : Segment). x.slot < l.k) no_segment gs (i - 1) (chain-below l.k l.c gs m.fit.chain)
-        (omega (arith, m.within, listed-length l.count l.segs m.long few)) in
-        let same : (get_or gs (i - 1) no_segment).slot ≡ g.slot = ap (λ (x : Segment). x.slot) at_g in
-        omega (arith, b, same, m.fit.sizes.few-slots)
-
-    -- one mark more
-    pub marked_more : Marked l (set used g.slot 1) (i - 1)
-    unfolding marks
-    marked_more =
-        let back : suc (i - 1) ≡ i = omega arith in
-        let one : drop (i - 1) gs ≡ g ∷ drop i gs =
-        drop-cons gs (i - 1) no_segment (omega (arith, m.within, listed-length l.count l.segs m.long few))
-        ∙ ap (λ (x : Segment). x ∷ drop (suc (i - 1)) gs) at_g ∙ ap (λ (j : ℕ). g ∷ drop j gs) back in
-        record {
-          long = m.long;
-          fit = m.fit;
-          within = omega (arith, m.within);
-          marked = ap (λ (x : List ℕ). set x g.slot 1) m.marked ∙ ap (marks slot_number 64) (sym one);
-        }
-
-  -- all are marked
-  pub marked_all : i ≡ 0 → used ≡ marks slot_number 64 gs
-  marked_all z = m.marked ∙ ap (λ (j : ℕ). marks slot_number 64 (drop j gs)) z
+  -- what a search through the K slots finds, by the marks
+  pub free-found : (used : List Bool) → k ≤ 64 → Marked used gs → (r : Option ℕ)
+      → MatchOption r ((j : ℕ) → 0 ≤ j → j < k → get_or used j false ≡ true)
+      (λ i. (0 ≤ i) × (i < k) × (get_or used i false ≡ false) × ((j : ℕ) → 0 ≤ j → j < i → get_or used j false ≡ true))
+      → r ≡ pick (eqb (free_from k 0 gs) k) None (Some (free_from k 0 gs))
+  free-found used few m None h =
+      let e = free-none (λ j l. marked-yes used gs j (omega arith) m (h j (omega arith) l)) in sym (simp (e, eq-eqb k k refl))
+  free-found used few m (Some i) h =
+      let l = h.1 in
+      let e = free-first i l (marked-no used gs i (omega arith) m h.2) (λ j b. marked-yes used gs j (omega arith) m (h.3 j (omega arith) b)) in
+      sym (simp (e, ne_eqb i k (λ z. omega arith)))

@@ -1,6 +1,6 @@
 -- Where the next record of a log goes, or refusals 2 to 7 in order: from the log, the area's length and the payload's, and no byte of
 -- either. Laws: proofs/Deciding.antt, proofs/DecidingFree.antt. Assumes nothing.
-use Rattle.std.specs.Prelude.{ℕ, zero, suc, ◌+◌, ◌-◌, ◌%◌, ◌^◌, Bool, true, not, ◌&&◌, List, [], ◌∷◌, length, ◌==◌, nat_eq, nat_le, nat_lt}
+use Rattle.std.specs.Prelude.{ℕ, zero, suc, ◌+◌, ◌-◌, ◌%◌, ◌^◌, Bool, true, not, ◌&&◌, List, [], ◌∷◌, length, ◌==◌, nat_eq, nat_le, nat_lt, Option, Some, None}
 use Rattle.lists.specs.Choice.{pick, ◌⇒◌, first}
 use Rattle.lists.specs.Outcome.{Outcome, refused, done}
 use Rattle.lists.specs.Distinct.{fresh}
@@ -20,6 +20,10 @@ free_from (suc n) i gs = pick (fresh slot_number i gs) i (free_from n (suc i) gs
 -- "the lowest slot that no listed segment has"; K where all K slots are listed
 abbrev pub lowest_free : View → ℕ
 lowest_free a = free_from a.k 0 a.segs
+
+-- that slot, where one of the K is left
+abbrev pub free_slot : View → Option ℕ
+free_slot a = pick (lowest_free a == a.k) None (Some (lowest_free a))
 
 -- "It opens a new segment if there is none or the head's size >= M"
 unfoldable pub opens_of : View → Bool

@@ -2,12 +2,13 @@
 // is decided with no byte of the area or the payload, and putting it there, through the segment's writer.
 #![tactic(auto)]
 
-ghost use Rattle.std.specs.Prelude.{◌≡◌, ◌+◌, ◌*◌, ◌%◌, ◌^◌, true, length, take, ◌==◌, nat_le};
+ghost use Rattle.std.specs.Prelude.{◌≡◌, ◌+◌, ◌*◌, ◌%◌, ◌^◌, true, length, ◌==◌, nat_le};
 ghost use Rattle.lists.specs.Choice.{pick};
 ghost use Rattle.lists.specs.Outcome.{done};
 ghost use Rattle.refusal.specs.Refusals.{outcome};
+ghost use Rattle.seglog.specs.View.{view_of};
 ghost use Rattle.seglog.specs.Fit.{fitting_of};
-ghost use Rattle.seglog_append.specs.Deciding.{free_from, decide_log};
+ghost use Rattle.seglog_append.specs.Deciding.{free_slot, decide_log};
 ghost use Rattle.seglog_append.specs.Appending.{GrownPre, grown_answer, taken, appended, advanced_of, append_log, append_answer, append_area};
 
 use record::{HEADER_SIZE, MAX_RECORD_PAYLOAD_SIZE};
@@ -45,28 +46,17 @@ fn opens(count: usize, soft: u64, size: u64) -> bool
     count == 0 || soft <= size
 }
 
-// The lowest slot that no listed segment has, K where there is none: a mark for each slot listed, then the first without one.
-fn lowest_free(log: Log) -> u32
+// The lowest slot that no listed segment has, where one of the K is left: a mark for each slot listed, then the first without one.
+fn lowest_free(log: Log) -> Option<u32>
     requires { fitting_of log (log.k * log.c) ≡ true }
-    ensures { result ≡ free_from log.k 0 (take log.count log.segs) }
+    ensures { result ≡ free_slot (view_of log) }
 {
-    let mut used = [0u8; 64];
-    let mut i: usize = log.count;
-    while 0 < i {
-        i -= 1;
-        let g = log.segs[i];
-        let slot = g.slot as usize;
-        used[slot] = 1;
+    let mut used = [false; 64];
+    let listed = &log.segs[..log.count];
+    for g in listed {
+        used[g.slot as usize] = true;
     }
-    let mut free: u32 = 0;
-    while (free as u64) < log.k {
-        let slot = free as usize;
-        if used[slot] == 0 {
-            return free;
-        }
-        free += 1;
-    }
-    free
+    (0..log.k as u32).find(|slot| !used[*slot as usize])
 }
 
 // A new segment, before its first record.
@@ -103,10 +93,7 @@ pub fn decide(log: Log, bytes: usize, n: usize) -> Result<Place, Refusal>
         if next == 0 {
             return Err(Refusal::LastSegmentId);
         }
-        let slot = lowest_free(log);
-        if slot as u64 == log.k {
-            return Err(Refusal::NoFreeSlot);
-        }
+        let slot = lowest_free(log).ok_or(Refusal::NoFreeSlot)?;
         at = log.count;
         target = new_segment(next, slot, log.end + 1);
     }

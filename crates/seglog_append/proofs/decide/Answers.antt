@@ -1,7 +1,11 @@
 -- `decide` meets its contract: each return is a way of its definition, and both ways to a segment meet in the one that was chosen.
 -- Assumes nothing.
-use Rattle.std.proofs.Common.{◌≡◌, ◌<◌, length, sym, ◌∙◌, arith, rules}
+use Rattle.std.proofs.Common.{◌≡◌, ◌<◌, length, sym, ap, ◌∙◌, arith, rules}
+use Rattle.lists.specs.Outcome.{refused}
 use Rattle.lists.proofs.Arrays.{unmapped}
+use Rattle.lists.proofs.Outcome.{handed-on}
+use Rattle.refusal.specs.declared.Refusal.{Refusal}
+use Rattle.refusal.specs.Refusals.{number, outcome}
 use Rattle.record.specs.Record.{record_room}
 use Rattle.seglog.specs.View.{view_of}
 use Rattle.seglog_append.specs.Deciding.{opens_of, next_id}
@@ -19,13 +23,15 @@ use Rattle.seglog_append.proofs.Deciding.{
   append-refuses-6,
   chosen-refuses-7,
   append_places,
+  slot-found,
+  slot-refused,
   opens_by,
   next-by,
   chosen-new,
   chosen-head,
 }
 use Rattle.seglog_append.proofs.decide.Goals as goal
-use Rattle.seglog_append.proofs.decide.Goals.{then-opens+else-next-eq0+else-slot-log, else-opens}
+use Rattle.seglog_append.proofs.decide.Goals.{then-opens+else-next-eq0+in_ok-slot, else-opens}
 
 pub returns-then-not-fits : goal.returns-then-not-fits
 returns-then-not-fits c =
@@ -90,8 +96,8 @@ returns-then-next-eq0 c =
     sym (append-refuses-5 a.log a.bytes a.n k.fits k.small k.more (sym wanted ∙ c.if-opens.true)
     (sym next-id ∙ c.if-next-eq0.true))
 
-pub lowest_free-slot-requires : goal.lowest_free-slot-requires
-lowest_free-slot-requires c =
+pub lowest_free-requires : goal.lowest_free-requires
+lowest_free-requires c =
     let long-at : length c.args.log.segs ≡ 64 = search (rules, unmapped) in
     let past : Past c.args.log c.args.bytes c.args.n = record {
       long = long-at;
@@ -103,8 +109,8 @@ lowest_free-slot-requires c =
     let a = c.args in
     shaped a.log a.bytes k.long k.fits
 
-pub returns-then-slot-log : goal.returns-then-slot-log
-returns-then-slot-log c =
+pub returns-in_err-slot : goal.returns-in_err-slot
+returns-in_err-slot c =
     let long-at : length c.args.log.segs ≡ 64 = search (rules, unmapped) in
     let past : Past c.args.log c.args.bytes c.args.n = record {
       long = long-at;
@@ -119,9 +125,11 @@ returns-then-slot-log c =
     let k = past in
     next-by a.log a.bytes k.long k.fits _ c.saturating_sub-at.ensures _ c.gen_segment_id-next.ensures in
     let a = c.args in
-    sym (append-refuses-6 a.log a.bytes a.n past (sym wanted ∙ c.if-opens.true)
-    (λ z. c.if-next-eq0.false (next-id ∙ z))
-    (sym c.lowest_free-slot.ensures ∙ c.if-slot-log.true))
+    let none = slot-refused (view_of a.log) c.lowest_free.result _ c.lowest_free.ensures c.in_err-slot.field-0.0
+    (sym c.ok_or.ensures.value ∙ c.in_err-slot.was) in
+    ap outcome (handed-on c.from_residual.result c.in_err-slot.field-0.0 c.from_residual.ensures.1)
+    ∙ ap (λ (d : Refusal). refused (number d)) none.0
+    ∙ sym (append-refuses-6 a.log a.bytes a.n past (sym wanted ∙ c.if-opens.true) (λ z. c.if-next-eq0.false (next-id ∙ z)) none.1)
 
 pub overflow_sub-log : goal.overflow_sub-log
 overflow_sub-log c =
@@ -138,10 +146,12 @@ overflow_sub-log c =
     let chosen : Chosen c.args.log c.if-opens.target c.if-opens.at = let a = c.args in
     let k = past in
     elim c.if-opens.branch [
-      | then-opens+else-next-eq0+else-slot-log w ↦
-          chosen-new a.log a.bytes k.long k.fits c.if-opens.target c.if-opens.at w.gen_segment_id-next.result w.lowest_free-slot.result
+      | then-opens+else-next-eq0+in_ok-slot w ↦
+          let found = slot-found (view_of a.log) w.lowest_free.result _ w.lowest_free.ensures w.in_ok-slot.slot
+          (sym w.ok_or.ensures.value ∙ w.in_ok-slot.was) in
+          chosen-new a.log a.bytes k.long k.fits c.if-opens.target c.if-opens.at w.gen_segment_id-next.result w.in_ok-slot.slot
           (sym wanted ∙ w.if-opens.true) (next-by a.log a.bytes k.long k.fits _ c.saturating_sub-at.ensures _ w.gen_segment_id-next.ensures)
-          w.if-next-eq0.false w.lowest_free-slot.ensures w.if-slot-log.false w.at-is (w.target-is ∙ w.new_segment-target.ensures)
+          w.if-next-eq0.false found.0 found.1 w.at-is (w.target-is ∙ w.new_segment-target.ensures)
       | else-opens w ↦
           chosen-head a.log a.bytes k.long k.fits _ c.saturating_sub-at.ensures
           c.if-opens.target c.if-opens.at (sym wanted ∙ w.if-opens.false) w.at-is w.target-is
@@ -164,10 +174,12 @@ returns-then-log-target c =
     let chosen : Chosen c.args.log c.if-opens.target c.if-opens.at = let a = c.args in
     let k = past in
     elim c.if-opens.branch [
-      | then-opens+else-next-eq0+else-slot-log w ↦
-          chosen-new a.log a.bytes k.long k.fits c.if-opens.target c.if-opens.at w.gen_segment_id-next.result w.lowest_free-slot.result
+      | then-opens+else-next-eq0+in_ok-slot w ↦
+          let found = slot-found (view_of a.log) w.lowest_free.result _ w.lowest_free.ensures w.in_ok-slot.slot
+          (sym w.ok_or.ensures.value ∙ w.in_ok-slot.was) in
+          chosen-new a.log a.bytes k.long k.fits c.if-opens.target c.if-opens.at w.gen_segment_id-next.result w.in_ok-slot.slot
           (sym wanted ∙ w.if-opens.true) (next-by a.log a.bytes k.long k.fits _ c.saturating_sub-at.ensures _ w.gen_segment_id-next.ensures)
-          w.if-next-eq0.false w.lowest_free-slot.ensures w.if-slot-log.false w.at-is (w.target-is ∙ w.new_segment-target.ensures)
+          w.if-next-eq0.false found.0 found.1 w.at-is (w.target-is ∙ w.new_segment-target.ensures)
       | else-opens w ↦
           chosen-head a.log a.bytes k.long k.fits _ c.saturating_sub-at.ensures
           c.if-opens.target c.if-opens.at (sym wanted ∙ w.if-opens.false) w.at-is w.target-is
@@ -193,10 +205,12 @@ returns c =
     let chosen : Chosen c.args.log c.if-opens.target c.if-opens.at = let a = c.args in
     let k = past in
     elim c.if-opens.branch [
-      | then-opens+else-next-eq0+else-slot-log w ↦
-          chosen-new a.log a.bytes k.long k.fits c.if-opens.target c.if-opens.at w.gen_segment_id-next.result w.lowest_free-slot.result
+      | then-opens+else-next-eq0+in_ok-slot w ↦
+          let found = slot-found (view_of a.log) w.lowest_free.result _ w.lowest_free.ensures w.in_ok-slot.slot
+          (sym w.ok_or.ensures.value ∙ w.in_ok-slot.was) in
+          chosen-new a.log a.bytes k.long k.fits c.if-opens.target c.if-opens.at w.gen_segment_id-next.result w.in_ok-slot.slot
           (sym wanted ∙ w.if-opens.true) (next-by a.log a.bytes k.long k.fits _ c.saturating_sub-at.ensures _ w.gen_segment_id-next.ensures)
-          w.if-next-eq0.false w.lowest_free-slot.ensures w.if-slot-log.false w.at-is (w.target-is ∙ w.new_segment-target.ensures)
+          w.if-next-eq0.false found.0 found.1 w.at-is (w.target-is ∙ w.new_segment-target.ensures)
       | else-opens w ↦
           chosen-head a.log a.bytes k.long k.fits _ c.saturating_sub-at.ensures
           c.if-opens.target c.if-opens.at (sym wanted ∙ w.if-opens.false) w.at-is w.target-is

@@ -1,69 +1,54 @@
--- `lowest_free` meets its contract. The first loop's invariant: the slots of the segments from i on are marked. The second's: the
--- answer is that of a search from `free` on. The measures are the segments and the slots left. Assumes nothing.
-use Rattle.std.proofs.Common.{ℕ, List, get_or, take, sym, refl, ap, ◌∙◌, arith, rules}
+-- `lowest_free` meets its contract: the marks of the loop tell the free slots, and the search finds the first of them. Assumes nothing.
+use Rattle.std.proofs.Common.{rules, ◌≡◌, ◌*◌, ◌≤◌, true, false, get_or, take, arith}
+use Rattle.std.proofs.lemmas.Iterator.{serves_from_Range, first_from_Range}
 use Rattle.lists.proofs.Arrays.{unmapped}
-use Rattle.lists.proofs.Distinct.{marks, mark-none, mark-some}
-use Rattle.segment.specs.Segment.{slot_number}
-use Rattle.seglog_append.proofs.DecidingFree.{marked-none, marked-slot, marked_more, marked_all}
-use Rattle.seglog_append.proofs.DecidingFree.{free-start, free-turn, free-found, free-none}
+use Rattle.seglog.proofs.Fit.{Fitting, fitting-is, chain-few}
+use Rattle.seglog.proofs.Slots.{marked_none, slot-few, marked_next, marked_all}
+use Rattle.seglog_append.proofs.DecidingFree.{free-found}
 use Rattle.seglog_append.proofs.lowest_free.Goals as goal
 
-pub loop-i-init : goal.loop-i-init
-unfolding marks
-loop-i-init c =
-    marked-none _ _ (search (rules, unmapped)) c.requires refl
+pub shared_ref_as_front-listed : goal.shared_ref_as_front-listed
+shared_ref_as_front-listed c =
+    let l = c.args.log in
+    let fit : Fitting l (l.k * l.c) = fitting-is l (l.k * l.c) (search (rules, unmapped)) c.requires in
+    omega (arith, fit.few, fit.sizes.few-slots)
 
-pub overflow_sub-i : goal.overflow_sub-i
-overflow_sub-i c =
-    omega (arith, c.loop-i-test)
+pub loop-g-init : goal.loop-g-init
+loop-g-init c =
+    marked_none
 
-pub bounds-used-slot : goal.bounds-used-slot
-bounds-used-slot c =
-    let l = c.loop-i in
-    omega (arith, marked-slot c.args.log l.used l.i l.invariant (omega (arith, c.loop-i-test)))
+pub bounds-used-g : goal.bounds-used-g
+bounds-used-g c =
+    let l = c.args.log in
+    let fit : Fitting l (l.k * l.c) = fitting-is l (l.k * l.c) (search (rules, unmapped)) c.requires in
+    slot-few c.loop-g.used (take l.count l.segs) c.loop-g.g-index c.loop-g-test.true (chain-few l.k l.c l.m (take l.count l.segs) fit.sizes fit.chain)
 
-pub loop-i-preserved : goal.loop-i-preserved
-loop-i-preserved c =
-    let l = c.loop-i in
-    marked_more c.args.log l.used l.i l.invariant (omega (arith, c.loop-i-test))
+pub loop-g-preserved : goal.loop-g-preserved
+loop-g-preserved c =
+    let l = c.args.log in
+    let fit : Fitting l (l.k * l.c) = fitting-is l (l.k * l.c) (search (rules, unmapped)) c.requires in
+    marked_next c.loop-g.used (take l.count l.segs) c.loop-g.g-index c.loop-g-test.true
+    (chain-few l.k l.c l.m (take l.count l.segs) fit.sizes fit.chain) c.loop-g.invariant
 
-pub loop-free-init : goal.loop-free-init
-loop-free-init c =
-    let l = c.loop-i in (
-      l.invariant.fit.sizes.few-slots,
-      omega arith,
-      marked_all c.args.log l.used l.i l.invariant (omega arith),
-      free-start _ _,
-    )
+pub overflow_cast-log : goal.overflow_cast-log
+overflow_cast-log c =
+    let l = c.args.log in
+    let fit : Fitting l (l.k * l.c) = fitting-is l (l.k * l.c) (search (rules, unmapped)) c.requires in
+    omega (arith, fit.sizes.few-slots)
 
-pub returns-then-used-slot-eq0 : goal.returns-then-used-slot-eq0
-returns-then-used-slot-eq0 c =
-    let log-of = c.args.log in
-    let l = c.loop-free in
-    let log = log-of in
-    let gs = take log.count log.segs in
-    sym (l.invariant.3
-    ∙ free-found log.k l.free gs (omega arith)
-    (mark-none slot_number 64 gs l.free (omega arith) (ap (λ (m : List ℕ). get_or m l.free 0) (sym l.invariant.2) ∙ c.if-used-slot-eq0.true)))
-
-pub loop-free-preserved : goal.loop-free-preserved
-loop-free-preserved c =
-    let log-of = c.args.log in
-    let l = c.loop-free in
-    let log = log-of in
-    let gs = take log.count log.segs in (
-      l.invariant.0,
-      omega arith,
-      l.invariant.2,
-      l.invariant.3
-          ∙ free-turn log.k l.free gs (omega arith)
-          (mark-some slot_number 64 gs l.free (omega arith)
-          (λ z. c.if-used-slot-eq0.false (ap (λ (m : List ℕ). get_or m l.free 0) l.invariant.2 ∙ z))),
-    )
+pub find-requires-clause-callable : goal.find-requires-clause-callable
+find-requires-clause-callable c =
+    let l = c.args.log in
+    let fit : Fitting l (l.k * l.c) = fitting-is l (l.k * l.c) (search (rules, unmapped)) c.requires in
+    let few : l.k ≤ 64 = fit.sizes.few-slots in
+    let long = c.loop-g.invariant.long in
+    serves_from_Range (λ x q h. search rules) (λ x a b. search rules)
 
 pub returns : goal.returns
 returns c =
-    let log-of = c.args.log in
-    let l = c.loop-free in
-    let log = log-of in
-    sym (l.invariant.3 ∙ free-none log.k l.free (take log.count log.segs) (omega arith))
+    let l = c.args.log in
+    let fit : Fitting l (l.k * l.c) = fitting-is l (l.k * l.c) (search (rules, unmapped)) c.requires in
+    let marked = marked_all c.loop-g.used (take l.count l.segs) c.loop-g.g-index c.loop-g-test.false c.loop-g.invariant in
+    free-found l.k (take l.count l.segs) c.loop-g.used fit.sizes.few-slots marked _
+    (first_from_Range _ _ _ _ (λ n. get_or c.loop-g.used n false ≡ false) (λ n. get_or c.loop-g.used n false ≡ true)
+    c.find.ensures.ran (λ x q k. search rules) (λ x q k. search rules))
