@@ -24,8 +24,8 @@ use Rattle.segment.specs.Segment.{image_of}
 use Rattle.segment.specs.Chain.{Chain, NewestFits, InSlot}
 use Rattle.segment.proofs.Chain.{chain-le}
 use Rattle.walk.specs.declared.Scan.{Scan}
-use Rattle.walk.specs.declared.Step.TheVariants.{Next}
-use Rattle.walk.specs.declared.Walked.TheVariants.{Ended}
+use Rattle.std.specs.Prelude.{Result, Ok}
+use Rattle.walk.specs.declared.Fault.{Fault}
 use Rattle.walk.specs.Judging.{live_of, cut_of, goes_on, more_of, gap_of, record_step, advanced_of, opened_of}
 use Rattle.walk.specs.Walk.{walk_of}
 use Rattle.walk.proofs.Judging.{Follows, follows_is, went, more-over, more-ended, more-stopped, opened-goes, gap-none}
@@ -91,7 +91,7 @@ found_among here first later up far =
 
 module _ (img : List ℕ) (c s e : ℕ) (in-slot : length img ≤ c) (whole : c % 4096 ≡ 0) (order : s ≤ e) where
   -- one record
-  ran-one : (w d : Scan) → w.pos % 4096 ≡ 0 → record_step img s e w ≡ Next d → Ran (length img) c s e w d
+  ran-one : (w d : Scan) → w.pos % 4096 ≡ 0 → record_step img s e w ≡ Ok d → Ran (length img) c s e w d
   unfolding advanced_of
   ran-one w d page m =
       let g = went (length img) s e w (header_at img w.pos) d m in
@@ -154,7 +154,7 @@ module _ (img : List ℕ) (c s e : ℕ) (in-slot : length img ≤ c) (whole : c 
   abbrev Walks : Scan → Scan → Type 0
   Walks w d = w.pos % 4096 ≡ 0 → ((more_of w (length img) ≡ false) × (w ≡ d)) ⊎ Ran (length img) c s e w d
 
-  walk-ran : (w d : Scan) → walk_of img s e w ≡ Ended d → Walks w d
+  walk-ran : (w d : Scan) → walk_of img s e w ≡ Ok d → Walks w d
   walk-ran =
       walk-keeps (length img) (header_at img) s e Walks
       (λ w d z h m on page.
@@ -208,10 +208,10 @@ module _ (area : List ℕ) (k c s e : ℕ) (all : length area ≡ k * c) (whole 
 
   -- an image without a record to read
   no_record : (r : ImageRow) (w d : Scan) → more_of (opened_of w r.size) (length (image_of area c r)) ≡ false
-      → walk_of (image_of area c r) s e (opened_of w r.size) ≡ Ended d → opened_of w r.size ≡ d
+      → walk_of (image_of area c r) s e (opened_of w r.size) ≡ Ok d → opened_of w r.size ≡ d
   no_record r w d over q =
       let img : List ℕ = image_of area c r in
-      let same : Ended (opened_of w r.size) ≡ Ended d = sym (walk_end (length img) (header_at img) s e (opened_of w r.size) over) ∙ q in
+      let same : ◌≡◌ {A = Result Scan Fault} (Ok (opened_of w r.size)) (Ok d) = sym (walk_end (length img) (header_at img) s e (opened_of w r.size) over) ∙ q in
       (cc)
 
   -- one of size 0
@@ -324,7 +324,7 @@ module _ (area : List ℕ) (k c s e : ℕ) (all : length area ≡ k * c) (whole 
           }
 
       filled-first : (r : ImageRow) (w d : Scan) (gs : List Segment) (m : Scan) (later : List Segment) → r.slot < k → r.size ≤ c
-          → (r.size ≡ 0 → ⊥) → goes_on w ≡ true → r.id ≡ i → walk_of (image_of area c r) s e (opened_of w r.size) ≡ Ended m
+          → (r.size ≡ 0 → ⊥) → goes_on w ≡ true → r.id ≡ i → walk_of (image_of area c r) s e (opened_of w r.size) ≡ Ok m
           → Tells k c s e (i + 1) m d later → gs ≡ filled_of r m ∷ later → Tells k c s e i w d gs
       filled-first r w d gs m later slot size some on id ended o segs =
           let long = image-long r slot size in

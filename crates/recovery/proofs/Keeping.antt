@@ -6,7 +6,7 @@ use Prim.Native.Nat.{ℕ, suc, ◌+◌, ◌-◌, ◌≤◌, ◌<◌}
 use native.Mathlib.Numerals.{add-one}
 use native.Mathlib.Omega.{arith}
 use lib.ListN.{length, get_or, take, set, replicate, length-append, length-take, get_or-append}
-use lib.Seq.{take-suc, set_at}
+use lib.Seq.{take-suc, take_all}
 use Rattle.lists.specs.Choice.{pick}
 use Rattle.segment.specs.declared.Segment.{Segment}
 use Rattle.seglog.specs.View.{head_of, front_of}
@@ -46,68 +46,62 @@ module _ (s e : ℕ) where
       either true h = omega arith
       either false h = omega arith
 
--- an entry of no segment, written where one stands, changes nothing
-same_none : (gs : List Segment) → length gs < 64 → set (entries_of gs) (length gs) no_segment ≡ entries_of gs
-same_none gs h =
-    let n : 64 - length gs ≡ suc (63 - length gs) = omega arith in
-    ap (λ (k : ℕ). set (gs ++ replicate k no_segment) (length gs) no_segment) n
-    ∙ set_at gs no_segment (replicate (63 - length gs) no_segment) no_segment (length gs) refl ∙ ap (λ (k : ℕ). gs ++ replicate k no_segment)
-    (sym n)
-
--- what the loop keeps
-pub record AtKeep (s e : ℕ) (segs kept : List Segment) (n i : ℕ) : Type 0 where
-  pub count : n ≡ length (kept_of s e (take i segs))
+-- what the loop keeps of the first i segments
+pub record AtKeep (s e : ℕ) (found segs : List Segment) (n i : ℕ) : Type 0 where
+  pub upto : i ≤ length found
+  pub count : n ≡ length (kept_of s e (take i found))
   pub low : n ≤ i
-  pub entries : kept ≡ entries_of (kept_of s e (take i segs))
+  pub entries : segs ≡ entries_of (kept_of s e (take i found))
 
-pub keep-start : (s e : ℕ) (segs : List Segment) (x : Segment) → x ≡ no_segment → AtKeep s e segs (replicate 64 x) 0 0
+pub keep-start : (s e : ℕ) (found : List Segment) → AtKeep s e found (replicate 64 no_segment) 0 0
 unfolding kept_of
-keep-start s e segs x q = record { count = refl; low = omega arith; entries = ap (λ (y : Segment). replicate 64 y) q }
+keep-start s e found = record { upto = omega arith; count = refl; low = omega arith; entries = refl }
 
--- a turn
-pub keep-turn : (s e : ℕ) (segs kept : List Segment) (n i : ℕ) (live : Bool) (x : Segment) (m : ℕ) → length segs ≡ 64 → i < 64
-    → AtKeep s e segs kept n i → live ≡ holds_live s e (get_or segs i no_segment) → x ≡ pick live (get_or segs i no_segment) no_segment
-    → m ≡ pick live (n + 1) n → AtKeep s e segs (set kept n x) m (i + 1)
-keep-turn s e segs kept n i live x m long h at is is_x is_m =
-    let g : Segment = get_or segs i no_segment in
-    let ks : List Segment = kept_of s e (take i segs) in
-    let room : length ks < 64 = omega (arith, at.count, at.low) in
-    let more : take (i + 1) segs ≡ take i segs ++ (g ∷ []) = ap (λ (k : ℕ). take k segs) (add-one i) ∙ take-suc segs i no_segment
-    (omega arith) in
-    let all : kept_of s e (take (i + 1) segs) ≡ pick live (ks ++ (g ∷ [])) ks =
-    ap (kept_of s e) more ∙ kept-snoc s e (take i segs) g ∙ ap (λ (b : Bool). pick b (ks ++ (g ∷ [])) ks) (sym is) in
-    let put : set kept n x ≡ set (entries_of ks) (length ks) (pick live g no_segment) =
-    ap (set kept n) is_x ∙ ap (λ (k : ℕ). set kept k (pick live g no_segment)) at.count
-    ∙ ap (λ (l : List Segment). set l (length ks) (pick live g no_segment)) at.entries in
-    record {
-      count = is_m ∙ counted live at.count ∙ sym (ap length all);
-      low = omega (arith, is_m, lower live at.low);
-      entries = put ∙ placed live room ∙ sym (ap entries_of all);
-    }
-  where
-    counted : (b : Bool) → n ≡ length (kept_of s e (take i segs))
-        → pick b (n + 1) n
-        ≡ length (pick b (kept_of s e (take i segs) ++ (get_or segs i no_segment ∷ [])) (kept_of s e (take i segs)))
-    counted true q = simp length-append (omega arith)
-    counted false q = q
+module _ (s e : ℕ) (found segs : List Segment) (n i : ℕ) (few : length found ≤ 64) (at : AtKeep s e found segs n i)
+    (more : i < length found) where
+  abbrev g : Segment
+  g = get_or found i no_segment
 
-    lower : (b : Bool) → n ≤ i → pick b (n + 1) n ≤ i + 1
-    lower true q = omega arith
-    lower false q = omega arith
+  abbrev before : List Segment
+  before = kept_of s e (take i found)
 
-    placed : (b : Bool) → length (kept_of s e (take i segs)) < 64
-        → set (entries_of (kept_of s e (take i segs))) (length (kept_of s e (take i segs))) (pick b (get_or segs i no_segment) no_segment)
-        ≡ entries_of (pick b (kept_of s e (take i segs) ++ (get_or segs i no_segment ∷ [])) (kept_of s e (take i segs)))
-    placed true room = set_new (kept_of s e (take i segs)) (get_or segs i no_segment) room
-    placed false room = same_none (kept_of s e (take i segs)) room
+  next : kept_of s e (take (i + 1) found) ≡ pick (holds_live s e g) (before ++ (g ∷ [])) before
+  next =
+      ap (λ (k : ℕ). kept_of s e (take k found)) (add-one i) ∙ ap (kept_of s e) (take-suc found i no_segment more)
+      ∙ kept-snoc s e (take i found) g
+
+  -- a segment without a live record
+  pub keep-dead : holds_live s e g ≡ false → AtKeep s e found segs n (i + 1)
+  keep-dead h =
+      let same : kept_of s e (take (i + 1) found) ≡ before = next ∙ ap (λ (b : Bool). pick b (before ++ (g ∷ [])) before) h in
+      record {
+        upto = omega (arith, more);
+        count = at.count ∙ ap length (sym same);
+        low = omega (arith, at.low);
+        entries = at.entries ∙ ap entries_of (sym same);
+      }
+
+  -- one with a live record
+  pub keep-live : holds_live s e g ≡ true → AtKeep s e found (set segs n g) (n + 1) (i + 1)
+  keep-live h =
+      let grown : kept_of s e (take (i + 1) found) ≡ before ++ (g ∷ []) =
+      next ∙ ap (λ (b : Bool). pick b (before ++ (g ∷ [])) before) h in
+      let room : length before < 64 = omega (arith, at.count, at.low, more, few) in
+      record {
+        upto = omega (arith, more);
+        count = omega (arith, at.count, ap length grown, length-append before (g ∷ []));
+        low = omega (arith, at.low);
+        entries = ap (λ (l : List Segment). set l n g) at.entries ∙ ap (λ (k : ℕ). set (entries_of before) k g) at.count
+            ∙ set_new before g room ∙ ap entries_of (sym grown);
+      }
 
 -- the end
-pub keep-end : (s e : ℕ) (segs kept : List Segment) (n i count : ℕ) → i ≡ count → AtKeep s e segs kept n i
-    → record { count = n; segs = kept } ≡ kept_in s e (take count segs)
-keep-end s e segs kept n i count q at =
-    let same = ap (λ (k : ℕ). kept_of s e (take k segs)) q in
-    let many : n ≡ length (kept_of s e (take count segs)) = at.count ∙ ap length same in
-    let all : kept ≡ entries_of (kept_of s e (take count segs)) = at.entries ∙ ap entries_of same in
+pub keep-end : (s e : ℕ) (found segs : List Segment) (n i : ℕ) → length found ≤ i → AtKeep s e found segs n i
+    → record { count = n; segs = segs } ≡ kept_in s e found
+keep-end s e found segs n i h at =
+    let same = ap (kept_of s e) (take_all i found h) in
+    let many : n ≡ length (kept_of s e found) = at.count ∙ ap length same in
+    let all : segs ≡ entries_of (kept_of s e found) = at.entries ∙ ap entries_of same in
     λ j. record { count = many j; segs = all j }
 
 -- ---- the last kept segment
@@ -140,7 +134,6 @@ module _ (k c m s e n at x : ℕ) (area : List ℕ) (gs : List Segment) (kept : 
   pub close-did : (area' : List ℕ) (y : Segment) → y ≡ ended_at last_entry e at x
       → area' ≡ truncated_area area c last_entry.slot last_entry.size x
       → CloseDid k c m s e at x gs area area' (record {
-        refusal = 0;
         rows = e - s + 1;
         log = record { k = k; c = c; m = m; start = s; end = e; count = kept.count - 1 + 1; segs = set kept.segs (kept.count - 1) y };
       })
@@ -155,7 +148,6 @@ module _ (k c m s e n at x : ℕ) (area : List ℕ) (gs : List Segment) (kept : 
       let live : e - s + 1 ≡ live_count s e = omega (arith, pre.range.order) in
       record {
         answer = λ j. record {
-          refusal = 0;
           rows = live j;
           log = record { k = k; c = c; m = m; start = s; end = e; count = many j; segs = put j };
         };

@@ -1,4 +1,3 @@
-pub mod RowsTurns
 pub mod ImagesWalked
 pub mod Keeping
 pub mod KeepingCut

@@ -1,30 +1,31 @@
--- The ways of recovery, on plain values: each test that leads to a refusal, the empty range, and the scan of the sorted rows; and that the
--- code's first refusal, from the test of the sizes and from the answer of `arrange`, is the definition's. Assumes nothing.
-use mathlib.Core.Path.{◌≡◌, refl, sym, ap, subst, ◌∙◌}
-use mathlib.Core.Bool.{Bool, true, false}
+-- The ways of recovery, on plain values: each test that leads to a refusal, the empty range, and the scan of the sorted rows; and what the
+-- answer of `arrange` tells of them. Assumes nothing.
+use mathlib.Core.Path.{◌≡◌, sym, ap, subst, ◌∙◌}
+use mathlib.Core.Bool.{true, false}
 use mathlib.Core.List.{List, []}
 use Prim.Native.Nat.{ℕ, ◌≤◌, ◌<◌}
 use native.Mathlib.Omega.{arith}
 use lib.ListN.{length, take}
-use lib.Dec.{ltb}
-use borrow.Author.Tests.{eq-eqb, ne_eqb, ltb-true, ltb-false, lt-ltb, le-ltb}
-use Rattle.lists.specs.Outcome.{refused}
-use Rattle.lists.proofs.Cases.{by-test}
+use borrow.Author.Tests.{eq-eqb, ne_eqb, lt-ltb, le-ltb}
+use Rattle.lists.specs.Outcome.{Outcome, refused, done}
+use Rattle.lists.proofs.Outcome.{refused-injective, refused-is-not-done, done-injective}
+use Rattle.std.specs.Prelude.{Result, Ok, Err}
+use Rattle.refusal.specs.declared.Refusal.{Refusal}
+use Rattle.refusal.specs.Refusals.{number}
 use Rattle.seglog.specs.View.{empty_of, log_of}
 use Rattle.seglog.specs.New.{roomy_of}
 use Rattle.seglog.proofs.Fit.{roomy-is}
 use Rattle.segment.specs.declared.ImageRow.{ImageRow}
 use Rattle.image_rows.specs.declared.Rows.{Rows}
-use Rattle.image_rows.specs.declared.Arranged.{Arranged}
 use Rattle.image_rows.specs.ImageRows.{sort_rows, rows_inside, rows_fit, lowest_zero, one_apart}
-use Rattle.image_rows.specs.Rows.{listed_of}
+use Rattle.image_rows.specs.Rows.{listed_of, sorted_of}
 use Rattle.image_rows.specs.Arrange.{arranged_of}
 use Rattle.image_rows.proofs.ImageRows.{fit_is, sort-inside}
 use Rattle.image_rows.proofs.RowsListed.{fit-few, sorted-is}
 use Rattle.image_rows.proofs.ArrangeWays.{Took, arranged-either}
 use Rattle.recovery.specs.declared.Recovered.{Recovered}
 use Rattle.recovery.specs.Recovery.{Recovery, recovered, scanned, one_zero, recovery_of, recovery_answer, recovery_area, recovery_index}
-use Rattle.recovery.specs.Recovery.{RecoveryDid, first_refusal, ScanPre}
+use Rattle.recovery.specs.Recovery.{RecoveryDid, ScanPre, answered}
 
 -- ---- the ways
 
@@ -81,88 +82,74 @@ module _ (k c m : ℕ) (area : List ℕ) (rows : List ImageRow) (s e room : ℕ)
 -- ---- what each way ensures
 
 -- a refusal: its number, and nothing changed
-pub did-refused : (o : Recovery) (area index : List ℕ) (n : ℕ) (r : Recovered) → r ≡ recovery_answer (refused n) → o ≡ refused n
-    → RecoveryDid o area index r area index
-did-refused o area index n r p q =
+pub did-refused : (o : Recovery) (area index : List ℕ) (r : Refusal) → o ≡ refused (number r) → RecoveryDid o area index (Err r) area index
+did-refused o area index r q =
     record {
-      answer = p ∙ sym (ap recovery_answer q);
+      answer = sym (ap recovery_answer q);
       bytes = sym (ap (recovery_area area) q);
       words = sym (ap (recovery_index index) q);
     }
 
 -- the range (0, 0): the empty log, and nothing changed
-pub did-empty : (o : Recovery) (k c m : ℕ) (area index : List ℕ) (r : Recovered) → r
-    ≡ record { refusal = 0; rows = 0; log = log_of (empty_of k c m) }
-    → o ≡ recovered (empty_of k c m) area [] → RecoveryDid o area index r area index
+pub did-empty : (o : Recovery) (k c m : ℕ) (area index : List ℕ) (r : Recovered) → r ≡ record { rows = 0; log = log_of (empty_of k c m) }
+    → o ≡ recovered (empty_of k c m) area [] → RecoveryDid o area index (Ok r) area index
 did-empty o k c m area index r p q =
     record {
-      answer = p ∙ sym (ap recovery_answer q);
+      answer = ap (λ (a : Recovered). answered (Ok a)) p ∙ sym (ap recovery_answer q);
       bytes = sym (ap (recovery_area area) q);
       words = sym (ap (recovery_index index) q);
     }
 
 -- the scan of the sorted rows
-pub did-scan : (k c m : ℕ) (area index : List ℕ) (rs ss : List ImageRow) (s e room : ℕ) (o : Recovery) (r : Recovered)
+pub did-scan : (k c m : ℕ) (area index : List ℕ) (rs ss : List ImageRow) (s e room : ℕ) (o : Recovery) (r : Result Recovered Refusal)
     (area' index' : List ℕ) → rs ≡ ss → o ≡ scanned k c m area ss s e room
     → RecoveryDid (scanned k c m area rs s e room) area index r area' index' → RecoveryDid o area index r area' index'
 did-scan k c m area index rs ss s e room o r area' index' sorted is h =
     subst (λ (q : Recovery). RecoveryDid q area index r area' index') (sym is)
     (subst (λ (l : List ImageRow). RecoveryDid (scanned k c m area l s e room) area index r area' index') sorted h)
 
--- ---- the code's first refusal
+-- ---- what the answer of `arrange` tells, after 1, 11 and 12
 
-module _ (k c m : ℕ) (area : List ℕ) (images : Rows) (s e room : ℕ) (fit : Bool) (arranged : Arranged)
-    (sizes : fit ≡ roomy_of k c m (length area)) (rows : arranged ≡ arranged_of k c images) where
-  -- what the refusals before the scan leave
-  pub record Passed : Type 0 where
-    pub roomy : roomy_of k c m (length area) ≡ true
-    pub range : one_zero s e ≡ false
-    pub order : s ≤ e
-    pub took : Took k c images arranged.rows
+module _ (k c m : ℕ) (area : List ℕ) (images : Rows) (s e room : ℕ) (roomy : roomy_of k c m (length area) ≡ true)
+    (range : one_zero s e ≡ false) (order : s ≤ e) where
+  few-slots : k ≤ 64
+  few-slots = (roomy-is k c m (length area) roomy).sizes.few-slots
 
-  -- a number that is not 0 is the definition's refusal; 0 says that none was met
-  pub refusal-either : (n : ℕ) → n ≡ first_refusal fit s e arranged.refusal
-      → ((n ≡ 0 → ⊥) → recovery_of k c m area (listed_of images) s e room ≡ refused n) × (n ≡ 0 → Passed)
-  unfolding first_refusal
-  refusal-either n q =
-      by-test fit
-      (λ t. let roomy = sym sizes ∙ t in
-      by-test (one_zero s e) (λ o. at 11 (q ∙ simp (t, o)) (λ z. recovery-refuses-11 _ _ _ _ _ _ _ _ roomy o) (λ z. absurd (omega arith)))
-      (λ o. by-test (ltb e s)
-      (λ l. at 12 (q ∙ simp (t, o, l)) (λ z. recovery-refuses-12 _ _ _ _ _ _ _ _ roomy o (ltb-true e s l)) (λ z. absurd (omega arith)))
-      (λ l.
-      let order = ltb-false e s l in
-      let few : k ≤ 64 = (roomy-is k c m (length area) roomy).sizes.few-slots in
-      let is : n ≡ arranged.refusal = q ∙ simp (t, o, l) in
-      at arranged.refusal is
-      (arranged-either (λ x. (x ≡ 0 → ⊥) → recovery_of k c m area (listed_of images) s e room ≡ refused x) k c images arranged few rows
-      (λ f z. recovery-refuses-13 _ _ _ _ _ _ _ _ roomy o order f) (λ f w z. recovery-refuses-14 _ _ _ _ _ _ _ _ roomy o order f w)
-      (λ f w p z. recovery-refuses-15 _ _ _ _ _ _ _ _ roomy o order f w p) (λ w z. absurd (z refl)))
-      (arranged-either (λ x. x ≡ 0 → Passed) k c images arranged few rows (λ f z. absurd (omega arith)) (λ f w z. absurd (omega arith))
-      (λ f w p z. absurd (omega arith))
-      (λ w z. record { roomy = roomy; range = o; order = order; took = w })))))
-      (λ t. at 1 (q ∙ simp t) (λ z. recovery-refuses-1 _ _ _ _ _ _ _ _ (sym sizes ∙ t)) (λ z. absurd (omega arith)))
+  -- 13 to 15
+  pub rows-refused : (n : ℕ) → refused n ≡ arranged_of k c images → recovery_of k c m area (listed_of images) s e room ≡ refused n
+  rows-refused n =
+      arranged-either (λ o. refused n ≡ o → recovery_of k c m area (listed_of images) s e room ≡ refused n) k c images few-slots
+      (λ f q. recovery-refuses-13 _ _ _ _ _ _ _ _ roomy range order f ∙ same 13 q)
+      (λ f w q. recovery-refuses-14 _ _ _ _ _ _ _ _ roomy range order f w ∙ same 14 q)
+      (λ f w p q. recovery-refuses-15 _ _ _ _ _ _ _ _ roomy range order f w p ∙ same 15 q) (λ w q. refused-is-not-done q)
     where
-      at : (x : ℕ) → n ≡ x → ((x ≡ 0 → ⊥) → recovery_of k c m area (listed_of images) s e room ≡ refused x) → (x ≡ 0 → Passed)
-          → ((n ≡ 0 → ⊥) → recovery_of k c m area (listed_of images) s e room ≡ refused n) × (n ≡ 0 → Passed)
-      at x is refuses passes = (
-        λ z. refuses (λ w. z (is ∙ w)) ∙ ap refused (sym is),
-        λ z. passes (sym is ∙ z),
-      )
+      same : (m : ℕ) → ◌≡◌ {A = Outcome Rows} (refused n) (refused m) → ◌≡◌ {A = Recovery} (refused m) (refused n)
+      same m q = ap (λ (x : ℕ). refused x) (sym (refused-injective q))
 
-  module _ (p : Passed) (long : length images.rows ≡ 64) where
+  -- sorted rows, of which none of 13 to 15 was met
+  pub record Passed (sorted : Rows) : Type 0 where
+    pub took : Took k c images
+    pub is : sorted ≡ sorted_of images
+
+  pub rows-taken : (sorted : Rows) → done sorted ≡ arranged_of k c images → Passed sorted
+  rows-taken sorted =
+      arranged-either (λ o. done sorted ≡ o → Passed sorted) k c images few-slots (λ f q. refused-is-not-done (sym q))
+      (λ f w q. refused-is-not-done (sym q)) (λ f w p q. refused-is-not-done (sym q))
+      (λ w q. record { took = w; is = done-injective q })
+
+  module _ (sorted : Rows) (p : Passed sorted) (long : length images.rows ≡ 64) where
     -- the rows of the array that the scan is given
-    pub rows-sorted : take arranged.rows.count arranged.rows.rows ≡ sort_rows (listed_of images)
-    rows-sorted = sorted-is images arranged.rows p.took.sorted-as (fit-few k c images long p.took.fit) long
+    pub rows-sorted : take sorted.count sorted.rows ≡ sort_rows (listed_of images)
+    rows-sorted = sorted-is images sorted p.is (fit-few k c images long p.took.fit) long
 
     -- what the scan asks
-    pub scan-asks : (s ≡ 0 → ⊥) → ScanPre k c m area arranged.rows s e
+    pub scan-asks : (s ≡ 0 → ⊥) → ScanPre k c m area sorted s e
     scan-asks some =
         record {
-          roomy = p.roomy;
-          order = p.order;
+          roomy = roomy;
+          order = order;
           some = some;
-          few = omega (arith, fit-few k c images long p.took.fit, ap (λ (z : Rows). z.count) p.took.sorted-as);
+          few = omega (arith, fit-few k c images long p.took.fit, ap (λ (z : Rows). z.count) p.is);
           inside = ap (rows_inside k c) rows-sorted
               ∙ sort-inside k c (listed_of images) (fit_is k c (listed_of images) p.took.fit).inside;
           low = ap lowest_zero rows-sorted ∙ p.took.low;

@@ -46,5 +46,5 @@ pub record ClosePre (c s e n x : ℕ) (area : List ℕ) (gs : List Segment) : Ty
 
 -- what closing the kept segments gs at e, from its start `at` to its padded end x, ensures
 pub record CloseDid (k c m s e at x : ℕ) (gs : List Segment) (area area' : List ℕ) (r : Recovered) : Type 0 where
-  pub answer : r ≡ record { refusal = 0; rows = live_count s e; log = log_of (closed_view k c m s e at x gs) }
+  pub answer : r ≡ record { rows = live_count s e; log = log_of (closed_view k c m s e at x gs) }
   pub bytes : area' ≡ padded_to c area (head_of gs) x

@@ -1,9 +1,12 @@
 -- Recovery, as document 01 says it: 1, 11 to 15, the scan (16 to 23), and what an accepted scan leaves. Assumes nothing.
-use Rattle.std.specs.Prelude.{◌≡◌, List, [], ◌∷◌, ◌++◌, Bool, true, false, ◌&&◌, ◌||◌, not, ℕ, ◌/◌, ◌≤◌, length, take, drop, ltb, eqb}
+use Rattle.std.specs.Prelude.{◌≡◌, List, [], ◌∷◌, ◌++◌, Bool, true, false, ◌&&◌, ◌||◌, not, ℕ, ◌/◌, ◌≤◌, length, take, drop, ltb, eqb, Result, Ok, Err}
 use Rattle.lists.specs.Choice.{◌⇒◌, first}
 use Rattle.lists.specs.Outcome.{Outcome, refused, done, either, kept}
+use Rattle.refusal.specs.declared.Refusal.{Refusal}
+use Rattle.refusal.specs.Refusals.{number}
 use Rattle.segment.specs.declared.Segment.{Segment}
 use Rattle.segment.specs.Segment.{ended_at, padded_to}
+use Rattle.seglog.specs.declared.Log.{Log}
 use Rattle.seglog.specs.View.{View, empty_of, log_of, zero_log, head_of, front_of}
 use Rattle.seglog.specs.New.{roomy_of}
 use Rattle.segment.specs.declared.ImageRow.{ImageRow}
@@ -69,11 +72,22 @@ recovery_of k c m area rows s e room =
 
 -- ---- as the code answers
 
+-- a refusal's number, or 0, with the number of index rows written and the log
+pub record RecoveryAnswer : Type 0 where
+  pub refusal : ℕ
+  pub rows : ℕ
+  pub log : Log
+
 -- the answer: "it is the log given, else all zeros"; the number of index rows written
-abbrev pub recovery_answer : Recovery → Recovered
+abbrev pub recovery_answer : Recovery → RecoveryAnswer
 recovery_answer o =
     either (λ n. record { refusal = n; rows = 0; log = zero_log })
     (λ a. record { refusal = 0; rows = length a.words / 4; log = log_of a.log }) o
+
+-- the code's answer: beside a refusal no row and the all-zero log
+abbrev pub answered : Result Recovered Refusal → RecoveryAnswer
+answered (Ok a) = record { refusal = 0; rows = a.rows; log = a.log }
+answered (Err r) = record { refusal = number r; rows = 0; log = zero_log }
 
 -- the area afterwards
 abbrev pub recovery_area : List ℕ → Recovery → List ℕ
@@ -84,16 +98,12 @@ abbrev pub recovery_index : List ℕ → Recovery → List ℕ
 recovery_index index o = kept index (λ a. a.words ++ drop (length a.words) index) o
 
 -- what the outcome o ensures: the answer, every byte of the area, every word of the index
-pub record RecoveryDid (o : Recovery) (area index : List ℕ) (r : Recovered) (area' index' : List ℕ) : Type 0 where
-  pub answer : r ≡ recovery_answer o
+pub record RecoveryDid (o : Recovery) (area index : List ℕ) (r : Result Recovered Refusal) (area' index' : List ℕ) : Type 0 where
+  pub answer : answered r ≡ recovery_answer o
   pub bytes : area' ≡ recovery_area area o
   pub words : index' ≡ recovery_index index o
 
 -- ---- the code's way to the scan
-
--- the first refusal before the scan, from whether the sizes fit (1) and the refusal of the rows (13 to 15): 0 where there is none
-unfoldable pub first_refusal : Bool → (s e rows : ℕ) → ℕ
-first_refusal fit s e rows = first ((not fit ⇒ 1) ∷ (one_zero s e ⇒ 11) ∷ (ltb e s ⇒ 12) ∷ []) rows
 
 -- what the scan of the first rows of an array asks: 1 and 11 to 15 were not met, and the range is not (0, 0)
 pub record ScanPre (k c m : ℕ) (area : List ℕ) (images : Rows) (s e : ℕ) : Type 0 where

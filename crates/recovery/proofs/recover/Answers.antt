@@ -1,44 +1,75 @@
--- `recovery::recover` meets its contract: each `return` is a way of the definition (proofs/RecoveryWays.antt).
--- Assumes nothing.
-use mathlib.Core.Path.{◌≡◌, ap}
+-- `recover` meets its contract: each `return` is a way of the definition (proofs/RecoveryWays.antt). Assumes nothing.
+use mathlib.Core.Path.{◌≡◌, sym, ap, subst, ◌∙◌}
+use mathlib.Core.Bool.{true, false}
 use lib.ListN.{length}
 use borrow.Author.Rules.{rules}
+use Rattle.std.specs.Prelude.{Result}
 use Rattle.lists.proofs.Arrays.{unmapped}
+use Rattle.lists.proofs.Outcome.{handed-on}
+use Rattle.refusal.specs.declared.Refusal.{Refusal}
+use Rattle.refusal.specs.declared.Refusal.TheVariants.{OutsideRules, OneEndZero, RangeReversed}
+use Rattle.refusal.specs.Refusals.{number, outcome}
 use Rattle.seglog.specs.declared.Log.{Log}
-use Rattle.recovery.proofs.RecoveryWays.{Passed, refusal-either, rows-sorted, scan-asks, recovery-empty, recovery-scans}
-use Rattle.recovery.proofs.RecoveryWays.{did-refused, did-empty, did-scan}
+use Rattle.seglog.specs.New.{roomy_of}
+use Rattle.image_rows.specs.Rows.{listed_of}
+use Rattle.recovery.specs.declared.Recovered.{Recovered}
+use Rattle.recovery.specs.Recovery.{one_zero, recovery_of, RecoveryDid}
+use Rattle.recovery.proofs.RecoveryWays.{recovery-refuses-1, recovery-refuses-11, recovery-refuses-12, rows-refused, rows-taken}
+use Rattle.recovery.proofs.RecoveryWays.{rows-sorted, scan-asks, recovery-empty, recovery-scans, did-refused, did-empty, did-scan}
 use Rattle.recovery.proofs.recover.Goals as goal
 
-pub returns-then-number-ne0 : goal.returns-then-number-ne0
-returns-then-number-ne0 c =
-    did-refused _ _ _ _ _ c.refusal.ensures
-    ((refusal-either _ _ _ _ _ _ _ _ _ _ c.sizes_fit-fit.ensures c.arrange-arranged.ensures _ c.first_refusal-number.ensures).0
-    c.if-number-ne0.true)
+pub returns-then-not-sizes_fit : goal.returns-then-not-sizes_fit
+returns-then-not-sizes_fit c =
+    did-refused _ _ _ OutsideRules (recovery-refuses-1 _ _ _ _ _ _ _ _ (sym c.sizes_fit.ensures ∙ c.if-not-sizes_fit.true))
 
-pub returns-then-s-eq0 : goal.returns-then-s-eq0
-returns-then-s-eq0 c =
-    let passed : let a = c.args in
-    Passed a.k a.c a.m a.area.now a.rows a.s a.e (length a.index.now) c.sizes_fit-fit.result
-    c.arrange-arranged.result c.sizes_fit-fit.ensures c.arrange-arranged.ensures = (refusal-either _ _ _ _ _ _ _ _ _ _ _ _ _ c.first_refusal-number.ensures).1 c.if-number-ne0.false in
-    let p = passed in
-    did-empty _ _ _ _ _ _ _ (ap (λ (l : Log). record { refusal = 0; rows = 0; log = l }) c.empty_log-log.ensures)
-    (recovery-empty _ _ _ _ _ _ _ _ p.roomy p.range p.order p.took.fit p.took.low p.took.apart c.if-s-eq0.true)
+pub returns-then-one_zero : goal.returns-then-one_zero
+returns-then-one_zero c =
+    did-refused _ _ _ OneEndZero
+    (recovery-refuses-11 _ _ _ _ _ _ _ _ (sym c.sizes_fit.ensures ∙ c.if-not-sizes_fit.false) (sym c.one_zero.ensures ∙ c.if-one_zero.true))
+
+pub returns-then-range : goal.returns-then-range
+returns-then-range c =
+    did-refused _ _ _ RangeReversed
+    (recovery-refuses-12 _ _ _ _ _ _ _ _ (sym c.sizes_fit.ensures ∙ c.if-not-sizes_fit.false) (sym c.one_zero.ensures ∙ c.if-one_zero.false)
+    c.if-range.true)
+
+pub returns-in_err-sorted : goal.returns-in_err-sorted
+returns-in_err-sorted c =
+    let a = c.args in
+    let e = c.in_err-sorted.field-0.0 in
+    subst (λ (r : Result Recovered Refusal). RecoveryDid
+    (recovery_of a.shape.k a.shape.c a.shape.m a.area.now (listed_of a.rows) a.range.s a.range.e (length a.index.now))
+    a.area.now a.index.now r a.area.now a.index.now)
+    (sym (handed-on c.from_residual.result e c.from_residual.ensures.1))
+    (did-refused _ _ _ e
+    (rows-refused _ _ _ _ _ _ _ _ (sym c.sizes_fit.ensures ∙ c.if-not-sizes_fit.false) (sym c.one_zero.ensures ∙ c.if-one_zero.false)
+    c.if-range.false (number e) (ap outcome (sym c.in_err-sorted.was) ∙ c.arrange.ensures)))
+
+pub returns-then-range-eq0 : goal.returns-then-range-eq0
+returns-then-range-eq0 c =
+    let a = c.args in
+    let roomy : roomy_of a.shape.k a.shape.c a.shape.m (length a.area.now) ≡ true = sym c.sizes_fit.ensures ∙ c.if-not-sizes_fit.false in
+    let range : one_zero a.range.s a.range.e ≡ false = sym c.one_zero.ensures ∙ c.if-one_zero.false in
+    let p = rows-taken _ _ _ _ a.rows _ _ (length a.index.now) roomy range c.if-range.false _ (ap outcome (sym c.in_ok-sorted.was) ∙ c.arrange.ensures) in
+    did-empty _ _ _ _ _ _ _ (ap (λ (l : Log). record { rows = 0; log = l }) c.empty_log-log.ensures)
+    (recovery-empty _ _ _ _ _ _ _ _ roomy range c.if-range.false p.took.fit p.took.low p.took.apart c.if-range-eq0.true)
 
 pub scan-requires : goal.scan-requires
 scan-requires c =
-    let full : length c.args.rows.rows ≡ 64 = search (rules, unmapped) in
-    let passed : let a = c.args in
-    Passed a.k a.c a.m a.area.now a.rows a.s a.e (length a.index.now) c.sizes_fit-fit.result
-    c.arrange-arranged.result c.sizes_fit-fit.ensures c.arrange-arranged.ensures = (refusal-either _ _ _ _ _ _ _ _ _ _ _ _ _ c.first_refusal-number.ensures).1 c.if-number-ne0.false in
-    scan-asks _ _ _ _ _ _ _ _ _ _ _ _ passed full c.if-s-eq0.false
+    let a = c.args in
+    let full : length a.rows.rows ≡ 64 = search (rules, unmapped) in
+    let roomy : roomy_of a.shape.k a.shape.c a.shape.m (length a.area.now) ≡ true = sym c.sizes_fit.ensures ∙ c.if-not-sizes_fit.false in
+    let range : one_zero a.range.s a.range.e ≡ false = sym c.one_zero.ensures ∙ c.if-one_zero.false in
+    let p = rows-taken _ _ _ _ a.rows _ _ (length a.index.now) roomy range c.if-range.false _ (ap outcome (sym c.in_ok-sorted.was) ∙ c.arrange.ensures) in
+    scan-asks _ _ _ _ _ _ _ _ roomy range c.if-range.false _ p full c.if-range-eq0.false
 
 pub returns : goal.returns
 returns c =
-    let full : length c.args.rows.rows ≡ 64 = search (rules, unmapped) in
-    let passed : let a = c.args in
-    Passed a.k a.c a.m a.area.now a.rows a.s a.e (length a.index.now) c.sizes_fit-fit.result
-    c.arrange-arranged.result c.sizes_fit-fit.ensures c.arrange-arranged.ensures = (refusal-either _ _ _ _ _ _ _ _ _ _ _ _ _ c.first_refusal-number.ensures).1 c.if-number-ne0.false in
-    let p = passed in
-    did-scan _ _ _ _ _ _ _ _ _ _ _ _ _ _ (rows-sorted _ _ _ _ _ _ _ _ _ _ _ _ p full)
-    (recovery-scans _ _ _ _ _ _ _ _ p.roomy p.range p.order p.took.fit p.took.low p.took.apart c.if-s-eq0.false)
+    let a = c.args in
+    let full : length a.rows.rows ≡ 64 = search (rules, unmapped) in
+    let roomy : roomy_of a.shape.k a.shape.c a.shape.m (length a.area.now) ≡ true = sym c.sizes_fit.ensures ∙ c.if-not-sizes_fit.false in
+    let range : one_zero a.range.s a.range.e ≡ false = sym c.one_zero.ensures ∙ c.if-one_zero.false in
+    let p = rows-taken _ _ _ _ a.rows _ _ (length a.index.now) roomy range c.if-range.false _ (ap outcome (sym c.in_ok-sorted.was) ∙ c.arrange.ensures) in
+    did-scan _ _ _ _ _ _ _ _ _ _ _ _ _ _ (rows-sorted _ _ _ _ _ _ _ _ roomy range c.if-range.false _ p full)
+    (recovery-scans _ _ _ _ _ _ _ _ roomy range c.if-range.false p.took.fit p.took.low p.took.apart c.if-range-eq0.false)
     c.scan.ensures
