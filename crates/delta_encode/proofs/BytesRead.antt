@@ -13,9 +13,9 @@ use borrow.Author.Tests.{le-leb, ltb-false}
 use Rattle.lists.specs.Choice.{pick}
 use Rattle.lists.proofs.Bools.{or-false}
 use Rattle.lists.specs.Splice.{part}
-use Rattle.little_endian.specs.LittleEndian.{le_at, le_bytes, u32_at}
-use Rattle.little_endian.specs.declared.U32At.TheVariants.{Value}
-use Rattle.little_endian.proofs.LittleEndian.{le_read, le-bytes-length, u32-value}
+use Rattle.little_endian.specs.LittleEndian.{le_at, le_bytes, number_at}
+use Rattle.lists.specs.Outcome.{done}
+use Rattle.little_endian.proofs.LittleEndian.{le_read, le-bytes-length, number-reads}
 use Rattle.lists.specs.Each.{any}
 use Rattle.delta.specs.Table.{erased, reinstated}
 use Rattle.delta.specs.Reading.{Got.got, Reading, Reading.row, erase_at, reinstate_at, group, prepend}
@@ -56,10 +56,10 @@ number s t p x e h small =
     ap (λ (l : List ℕ). le_at 4 l p) whole ∙ le_read 4 x (take p s) t p (sym (length-take-le p s h)) small
 
 -- a count at the front of what is left
-pub count_at : (s t : List ℕ) (p x : ℕ) → drop p s ≡ le_bytes 4 x ++ t → p ≤ length s → x < 4294967296 → u32_at s p ≡ Value x
+pub count_at : (s t : List ℕ) (p x : ℕ) → drop p s ≡ le_bytes 4 x ++ t → p ≤ length s → x < 4294967296 → number_at 4 s p ≡ done x
 count_at s t p x e h small =
     let c = cut s (le_bytes 4 x) t p 4 e (le-bytes-length 4 x) h in
-    u32-value s p (le-leb (p + 4) (length s) c.0) ∙ ap Value (number s t p x e h small)
+    number-reads 4 s p (le-leb (p + 4) (length s) c.0) ∙ ap done (number s t p x e h small)
 
 -- a key at the front of what is left
 erased-at : (s u : List ℕ) (r : Row) (p : ℕ) → length r.key ≡ 32 → drop p s ≡ r.key ++ u → p ≤ length s

@@ -8,7 +8,14 @@ use lib.ListN.{length, length-append, length-take}
 use native.Mathlib.Omega.{arith}
 use borrow.Author.Tests.{lt-ltb, le-ltb, ltb-false}
 use Rattle.lists.proofs.Bools.{zero-is-not-one}
-use Rattle.lists.specs.Outcome.{Outcome, done}
+use Rattle.lists.specs.Choice.{pick}
+use Rattle.std.specs.Prelude.{Result, Ok, Err}
+use Rattle.refusal.specs.declared.Refusal.{Refusal}
+use Rattle.refusal.specs.declared.Refusal.TheVariants.{TableOutside, DuplicateKey, OutputShort}
+use Rattle.refusal.specs.Refusals.{number, outcome}
+use Rattle.refusal.proofs.Refusals.{numbers-differ}
+use Rattle.lists.specs.Outcome.{Outcome, refused, done}
+use Rattle.lists.proofs.Outcome.{refused-is-not-done, refused-injective, done-injective}
 use Rattle.lists.specs.Splice.{splice}
 use Rattle.lists.proofs.Splice.{splice-join}
 use Rattle.little_endian.specs.LittleEndian.{le_bytes}
@@ -19,16 +26,12 @@ use Rattle.lists.proofs.AnyOrder.{any-any}
 use Rattle.lists.proofs.Sort.{sort-length}
 use Rattle.keys.specs.Order.{below}
 use Rattle.keys.proofs.Sorting.{sort-any}
-use Rattle.delta.specs.Table.{row_key, rows_of, arranged_of}
+use Rattle.delta.specs.Table.{row_key, rows_of, table_of, arranged_of}
 use Rattle.delta.proofs.TablePlain.{rows-table}
-use Rattle.delta.proofs.TableArranged.{arranged-table}
 use Rattle.delta.specs.declared.Row.{Row}
 use Rattle.delta.specs.declared.Table.{Table}
-use Rattle.delta.specs.declared.Arranged.{Arranged}
 use Rattle.delta_encode.specs.Bytes.{value_of, erase_bytes, reinstate_bytes, concat, sum, erases, reinstates, size_of, delta_bytes}
-use Rattle.delta_encode.specs.Bytes.{outside, bytes_of, encode_outcome, encoded_of, written, after_of, Keyed, Sized}
-use Rattle.delta_encode.specs.declared.Encoded.{Encoded}
-use Rattle.delta_encode.specs.declared.Encoded.TheVariants.{Written, Outside, Duplicate, Short}
+use Rattle.delta_encode.specs.Bytes.{outside, bytes_of, encoded_of, written, after_of, Keyed, Sized}
 use Rattle.delta_encode.specs.declared.Sizes.{Sizes}
 use Rattle.delta_encode.proofs.BytesWritten.{present-length}
 
@@ -65,32 +68,32 @@ bytes-length v ys =
     simp length-append (omega arith)
 
 -- the answer and the output, with at most `most` rows
-abbrev pub Ends : ℕ → Table → List ℕ → List ℕ → Encoded → List ℕ → Type 0
-Ends most t v o r o' = (encode_outcome r ≡ encoded_of most t v o) × (o' ≡ after_of most t v o)
+abbrev pub Ends : ℕ → Table → List ℕ → List ℕ → Result ℕ Refusal → List ℕ → Type 0
+Ends most t v o r o' = (outcome r ≡ encoded_of most t v o) × (o' ≡ after_of most t v o)
 
 module _ (most : ℕ) (t : Table) (v o : List ℕ) where
   -- a refusal leaves the output
-  refusal : (e : Encoded) → encoded_of most t v o ≡ encode_outcome e → written (encode_outcome e) (bytes_of t v) o ≡ o → Ends most t v o e o
+  refusal : (e : Refusal) → encoded_of most t v o ≡ outcome (Err e) → written (outcome (Err e)) (bytes_of t v) o ≡ o → Ends most t v o (Err e) o
   refusal e q w = (sym q, sym (ap (λ (x : Outcome ℕ). written x (bytes_of t v) o) q ∙ w))
 
   -- too many rows
-  pub ends-many : most < t.count → Ends most t v o Outside o
-  ends-many h = refusal Outside (unfold encoded_of in rw (lt-ltb most t.count h)) refl
+  pub ends-many : most < t.count → Ends most t v o (Err TableOutside) o
+  ends-many h = refusal TableOutside (unfold encoded_of in rw (lt-ltb most t.count h)) refl
 
   module _ (h : t.count ≤ most) where
     -- a value outside
-    pub ends-outside : any (outside (length v)) (rows_of t) ≡ true → Ends most t v o Outside o
-    ends-outside e = refusal Outside (unfold encoded_of in rw (le-ltb most t.count h, e)) refl
+    pub ends-outside : any (outside (length v)) (rows_of t) ≡ true → Ends most t v o (Err TableOutside) o
+    ends-outside e = refusal TableOutside (unfold encoded_of in rw (le-ltb most t.count h, e)) refl
 
     module _ (e : any (outside (length v)) (rows_of t) ≡ false) where
       -- a key twice
-      pub ends-twins : clash row_key (rows_of t) ≡ true → Ends most t v o Duplicate o
-      ends-twins d = refusal Duplicate (unfold encoded_of in rw (le-ltb most t.count h, e, d)) refl
+      pub ends-twins : clash row_key (rows_of t) ≡ true → Ends most t v o (Err DuplicateKey) o
+      ends-twins d = refusal DuplicateKey (unfold encoded_of in rw (le-ltb most t.count h, e, d)) refl
 
       module _ (d : clash row_key (rows_of t) ≡ false) where
         -- no room
-        pub ends-short : length o < length (bytes_of t v) → Ends most t v o Short o
-        ends-short l = refusal Short (unfold encoded_of in rw (le-ltb most t.count h, e, d, lt-ltb (length o) (length (bytes_of t v)) l))
+        pub ends-short : length o < length (bytes_of t v) → Ends most t v o (Err OutputShort) o
+        ends-short l = refusal OutputShort (unfold encoded_of in rw (le-ltb most t.count h, e, d, lt-ltb (length o) (length (bytes_of t v)) l))
             refl
 
         accepted : length (bytes_of t v) ≤ length o → encoded_of most t v o ≡ done (length (bytes_of t v))
@@ -100,7 +103,7 @@ module _ (most : ℕ) (t : Table) (v o : List ℕ) where
         -- the bytes
         pub ends-written : length (bytes_of t v) ≤ length o → (n : ℕ) (o' : List ℕ) → n ≡ length (bytes_of t v)
             → o' ≡ splice 0 (bytes_of t v) o
-            → Ends most t v o (Written n) o'
+            → Ends most t v o (Ok n) o'
         ends-written l n o' p q =
             (ap done p ∙ sym (accepted l), q ∙ sym (ap (λ (x : Outcome ℕ). written x (bytes_of t v) o) (accepted l)))
 
@@ -123,33 +126,54 @@ splice-four o a b c d o1 o2 o3 o4 la lc e1 e2 e3 e4 =
 
 -- what is known once the rows are in order and measured
 pub record Known (v : List ℕ) (t u : Table) (m : Sizes) : Type 0 where
+  pub once : clash row_key (rows_of t) ≡ false
   pub none : any (outside (length v)) (rows_of u) ≡ false
   pub bytes : bytes_of t v ≡ delta_bytes v (rows_of u)
   pub size : m.size ≡ length (bytes_of t v)
   pub parts : length (bytes_of t v) ≡ length (concat erase_bytes (rows_of u)) + length (concat (reinstate_bytes v) (rows_of u)) + 8
 
-module _ (t : Table) (a : Arranged) (h : t.count ≤ 256) (e : a ≡ arranged_of (rows_of t)) (d : a.twins ≡ false) where
+-- what `arrange` answers tells whether two rows have one key
+module _ (xs : List Row) where
+  -- it refuses: they have, and the refusal is 42
+  pub arranged-refused : (r : Refusal) → refused (number r) ≡ arranged_of xs → (r ≡ DuplicateKey) × (clash row_key xs ≡ true)
+  arranged-refused r e = go (clash row_key xs) refl e
+    where
+      go : (b : Bool) → clash row_key xs ≡ b → refused (number r) ≡ pick b (refused 42) (done (table_of (sort_by row_key xs)))
+          → (r ≡ DuplicateKey) × (clash row_key xs ≡ true)
+      go true p q = (numbers-differ r DuplicateKey (refused-injective q), p)
+      go false p q = refused-is-not-done q
+
+  -- it gives a table: they have not, and its rows are those in order
+  pub arranged-done : (u : Table) → done u ≡ arranged_of xs → (u ≡ table_of (sort_by row_key xs)) × (clash row_key xs ≡ false)
+  arranged-done u e = go (clash row_key xs) refl e
+    where
+      go : (b : Bool) → clash row_key xs ≡ b → done u ≡ pick b (refused 42) (done (table_of (sort_by row_key xs)))
+          → (u ≡ table_of (sort_by row_key xs)) × (clash row_key xs ≡ false)
+      go true p q = refused-is-not-done (sym q)
+      go false p q = (done-injective q, p)
+
+module _ (t u : Table) (h : t.count ≤ 256) (e : done u ≡ arranged_of (rows_of t)) where
   -- there are no more rows in order than there were
-  pub arranged-few : a.table.count ≤ 256
+  pub arranged-few : u.count ≤ 256
   arranged-few =
-      let c : a.table.count ≡ length (sort_by row_key (rows_of t)) = ap (λ (u : Table). u.count) (arranged-table (rows_of t) a e d) in
+      let c : u.count ≡ length (sort_by row_key (rows_of t)) = ap (λ (x : Table). x.count) (arranged-done (rows_of t) u e).0 in
       let l = sort-length below row_key (rows_of t) in
       let n = length-take t.count t.rows in
       omega arith
 
   -- what the order and the measures tell together
-  pub known : (v : List ℕ) (m : Sizes) → any (outside (length v)) (rows_of t) ≡ false → Sized (rows_of a.table) m → Known v t a.table m
+  pub known : (v : List ℕ) (m : Sizes) → any (outside (length v)) (rows_of t) ≡ false → Sized (rows_of u) m → Known v t u m
   known v m w z =
-      let q : rows_of a.table ≡ sort_by row_key (rows_of t) = ap rows_of (arranged-table (rows_of t) a e d)
-      ∙ rows-table (sort_by row_key (rows_of t)) in
-      let n : any (outside (length v)) (rows_of a.table) ≡ false = ap (any (outside (length v))) q
+      let d = arranged-done (rows_of t) u e in
+      let q : rows_of u ≡ sort_by row_key (rows_of t) = ap rows_of d.0 ∙ rows-table (sort_by row_key (rows_of t)) in
+      let n : any (outside (length v)) (rows_of u) ≡ false = ap (any (outside (length v))) q
       ∙ sym (any-any (outside (length v)) (rows_of t) (sort_by row_key (rows_of t)) (sort-any row_key (rows_of t))) ∙ w in
-      let s : bytes_of t v ≡ delta_bytes v (rows_of a.table) = ap (delta_bytes v) (sym q) in
-      let g = groups-length v (rows_of a.table) z.keyed n in
-      let b = bytes-length v (rows_of a.table) in
+      let s : bytes_of t v ≡ delta_bytes v (rows_of u) = ap (delta_bytes v) (sym q) in
+      let g = groups-length v (rows_of u) z.keyed n in
+      let b = bytes-length v (rows_of u) in
       let k = z.size in
       let l = ap length s in
-      record { none = n; bytes = s; size = omega arith; parts = omega arith }
+      record { once = d.1; none = n; bytes = s; size = omega arith; parts = omega arith }
 
 -- the four parts as they are written
 pub four-parts : (v o : List ℕ) (ys : List Row) (e k p q : ℕ) (o1 o2 o3 o4 : List ℕ) → e ≡ sum erases ys → k ≡ sum reinstates ys

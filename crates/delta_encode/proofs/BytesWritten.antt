@@ -1,18 +1,20 @@
 -- A loop that writes what each row gives, one behind the other; and what it takes to know that all of it fits.
 -- Assumes nothing.
-use Prim.Native.Nat.{ℕ, ◌+◌, ◌-◌, ◌<◌, ◌≤◌}
-use mathlib.Core.Bool.{Bool, true, false, ◌||◌}
+use Prim.Native.Nat.{ℕ, ◌+◌, ◌<◌, ◌≤◌}
+use mathlib.Core.Bool.{Bool, true, false}
 use borrow.Author.Tests.{ltb-false}
 use Rattle.lists.specs.Each.{any}
+use Rattle.lists.proofs.Each.{any_at}
 use Rattle.lists.proofs.Bools.{zero-is-not-one}
 use mathlib.Core.List.{List, [], ◌∷◌, ◌++◌}
 use mathlib.Core.Path.{◌≡◌, refl, ap, sym, ◌∙◌}
-use lib.ListN.{length, get_or, take, drop, length-append, length-drop, drop_of_length-le}
-use lib.Seq.{length-take-le}
+use lib.ListN.{length, get_or, drop, length-append, length-drop, drop_of_length-le}
+use lib.Seq.{length-take-le, drop-cons}
+use native.Mathlib.Numerals.{add-one}
 use native.Mathlib.Omega.{arith}
-use Rattle.lists.proofs.Arrays.{front}
 use Rattle.delta.specs.declared.Row.{Row}
-use Rattle.delta_encode.specs.Bytes.{erase_bytes, reinstate_bytes, value_of, outside, concat, sum, erases, reinstates, size_of, Sized}
+use Rattle.delta_encode.specs.Bytes.{erase_bytes, reinstate_bytes, value_of, outside, concat, sum, erases, reinstates, size_of, Keyed, Sized}
+use Rattle.delta_encode.specs.declared.Sizes.{Sizes}
 use Rattle.lists.specs.Splice.{splice}
 use Rattle.lists.proofs.Splice.{splice-length, splice-none, splice-join}
 use Rattle.little_endian.specs.LittleEndian.{le_bytes}
@@ -57,78 +59,77 @@ module _ (o : List ℕ) (at : ℕ) (whole out : List ℕ) (p : ℕ) (rest : List
       let left = w.left in
       (omega arith, sym (w.same ∙ ap (λ (x : List ℕ). splice p x out) e ∙ splice-none p out))
 
-module _ (rows : List Row) (n i : ℕ) (l : n ≤ length rows) where
-  -- the bytes from i on begin with those of the row at i
-  pub concat-front : (f : Row → List ℕ) (d : Row) → i < n → concat f (drop i (take n rows))
-      ≡ f (get_or rows i d) ++ concat f (drop (i + 1) (take n rows))
-  unfolding concat
-  concat-front f d h = rw (front rows n i d h l)
+-- what measuring the rows before the row i finds, beside what the rows from i on count
+pub record Measuring (rows : List Row) (i : ℕ) (m : Sizes) : Type 0 where
+  pub erased : m.erases + sum erases (drop i rows) ≡ sum erases rows
+  pub kept : m.reinstates + sum reinstates (drop i rows) ≡ sum reinstates rows
+  pub size : m.size + sum size_of (drop i rows) ≡ sum size_of rows + 8
+  pub keyed : Keyed (drop i rows) → Keyed rows
 
+module _ (rows : List Row) (i : ℕ) where
   -- no row is left: no bytes
-  pub concat-end : (f : Row → List ℕ) → n ≤ i → concat f (drop i (take n rows)) ≡ []
+  pub concat-end : (f : Row → List ℕ) → length rows ≤ i → concat f (drop i rows) ≡ []
   unfolding concat
-  concat-end f h = rw (drop_of_length-le (take n rows) {i = i} (simp (length-take-le n rows l) h))
+  concat-end f h = rw (drop_of_length-le rows {i = i} h)
 
-  -- no row is left: nothing is counted
-  pub sized-end : n ≤ i → Sized (drop i (take n rows)) (record { erases = 0; reinstates = 0; size = 8 })
+  -- no row is left: all is counted
+  pub measuring-end : (m : Sizes) → length rows ≤ i → Measuring rows i m → Sized rows m
   unfolding sum
-  sized-end h =
-      rw (drop_of_length-le (take n rows) {i = i} (simp (length-take-le n rows l) h))
-      (record { erased = refl; kept = refl; size = refl; keyed = tt })
+  measuring-end m h w =
+      let e : drop i rows ≡ [] = drop_of_length-le rows {i = i} h in
+      let a = rw e at w.erased in
+      let b = rw e at w.kept in
+      let c = rw e at w.size in
+      record { erased = omega arith; kept = omega arith; size = omega arith; keyed = rw e at w.keyed tt }
 
-  module _ (d : Row) (h : i < n) where
+  module _ (d : Row) (h : i < length rows) where
+    row-front : drop i rows ≡ get_or rows i d ∷ drop (i + 1) rows
+    row-front = rw add-one (drop-cons rows i d h)
+
+    -- the bytes from i on begin with those of the row at i
+    pub concat-front : (f : Row → List ℕ) → concat f (drop i rows) ≡ f (get_or rows i d) ++ concat f (drop (i + 1) rows)
+    unfolding concat
+    concat-front f = rw row-front
+
+    -- one row more is counted, with what it adds
+    pub measuring-step : (m m' : Sizes) → length (get_or rows i d).key ≡ 32 → m'.erases ≡ m.erases + erases (get_or rows i d)
+        → m'.reinstates ≡ m.reinstates + reinstates (get_or rows i d) → m'.size ≡ m.size + size_of (get_or rows i d)
+        → Measuring rows i m → Measuring rows (i + 1) m'
+    unfolding sum
+    measuring-step m m' k a b c w =
+        let a' = rw row-front at w.erased in
+        let b' = rw row-front at w.kept in
+        let c' = rw row-front at w.size in
+        record { erased = omega arith; kept = omega arith; size = omega arith; keyed = λ r. rw row-front at w.keyed (k, r) }
+
     -- an absent row gives its key to the erase group
-    pub erase-absent : (get_or rows i d).present ≡ false → concat erase_bytes (drop i (take n rows))
-        ≡ (get_or rows i d).key ++ concat erase_bytes (drop (i + 1) (take n rows))
-    erase-absent e = concat-front erase_bytes d h ∙ rw e
+    pub erase-absent : (get_or rows i d).present ≡ false → concat erase_bytes (drop i rows)
+        ≡ (get_or rows i d).key ++ concat erase_bytes (drop (i + 1) rows)
+    erase-absent e = concat-front erase_bytes ∙ rw e
 
     -- a present row gives it nothing
-    pub erase-present : (get_or rows i d).present ≡ true → concat erase_bytes (drop i (take n rows))
-        ≡ concat erase_bytes (drop (i + 1) (take n rows))
-    erase-present e = concat-front erase_bytes d h ∙ rw e
+    pub erase-present : (get_or rows i d).present ≡ true → concat erase_bytes (drop i rows) ≡ concat erase_bytes (drop (i + 1) rows)
+    erase-present e = concat-front erase_bytes ∙ rw e
 
     -- a present row gives its key, length and value to the reinstate group
     pub reinstate-present : (v : List ℕ) → (get_or rows i d).present ≡ true
-        → concat (reinstate_bytes v) (drop i (take n rows)) ≡ ((get_or rows i d).key
-        ++ (le_bytes 4 (get_or rows i d).length ++ value_of v (get_or rows i d))) ++ concat (reinstate_bytes v) (drop (i + 1) (take n rows))
-    reinstate-present v e = concat-front (reinstate_bytes v) d h ∙ rw e
+        → concat (reinstate_bytes v) (drop i rows) ≡ ((get_or rows i d).key
+        ++ (le_bytes 4 (get_or rows i d).length ++ value_of v (get_or rows i d))) ++ concat (reinstate_bytes v) (drop (i + 1) rows)
+    reinstate-present v e = concat-front (reinstate_bytes v) ∙ rw e
 
     -- an absent row gives it nothing
     pub reinstate-absent : (v : List ℕ) → (get_or rows i d).present ≡ false
-        → concat (reinstate_bytes v) (drop i (take n rows)) ≡ concat (reinstate_bytes v) (drop (i + 1) (take n rows))
-    reinstate-absent v e = concat-front (reinstate_bytes v) d h ∙ rw e
+        → concat (reinstate_bytes v) (drop i rows) ≡ concat (reinstate_bytes v) (drop (i + 1) rows)
+    reinstate-absent v e = concat-front (reinstate_bytes v) ∙ rw e
 
     -- a row of which none is outside is inside
-    pub inside : (v : List ℕ) → any (outside (length v)) (drop i (take n rows)) ≡ false
-        → (any (outside (length v)) (drop (i + 1) (take n rows)) ≡ false)
-        × ((get_or rows i d).present ≡ true → (get_or rows i d).offset + (get_or rows i d).length ≤ length v)
-    unfolding any
-    inside v e = go (outside (length v) (get_or rows i d)) (any (outside (length v)) (drop (i + 1) (take n rows))) refl
-        (rw (front rows n i d h l) at e)
+    pub inside : (v : List ℕ) → any (outside (length v)) rows ≡ false → (get_or rows i d).present ≡ true
+        → (get_or rows i d).offset + (get_or rows i d).length ≤ length v
+    inside v e y = go (outside (length v) (get_or rows i d)) refl
       where
-        go : (b t : Bool) → outside (length v) (get_or rows i d) ≡ b → b || t ≡ false
-            → (t ≡ false) × ((get_or rows i d).present ≡ true → (get_or rows i d).offset + (get_or rows i d).length ≤ length v)
-        go true t q r = zero-is-not-one (cc)
-        go false t q r = (r, λ y. ltb-false (length v) ((get_or rows i d).offset + (get_or rows i d).length) (rw y at q))
-
-  -- the row before i
-  module _ (p : 0 < i) (q : i ≤ n) (d : Row) where
-    before : drop (i - 1) (take n rows) ≡ get_or rows (i - 1) d ∷ drop i (take n rows)
-    before =
-        let e : i - 1 + 1 ≡ i = omega arith in
-        front rows n (i - 1) d (omega arith) l ∙ ap (λ (k : ℕ). get_or rows (i - 1) d ∷ drop k (take n rows)) e
-
-    -- one row more is counted, with what it adds
-    pub sized-before : (e k size e' k' size' : ℕ) → length (get_or rows (i - 1) d).key ≡ 32
-        → e' ≡ erases (get_or rows (i - 1) d) + e → k' ≡ reinstates (get_or rows (i - 1) d) + k → size' ≡ size_of (get_or rows (i - 1) d) + size
-        → Sized (drop i (take n rows)) (record { erases = e; reinstates = k; size = size })
-        → Sized (drop (i - 1) (take n rows)) (record { erases = e'; reinstates = k'; size = size' })
-    unfolding sum
-    sized-before e k size e' k' size' long he hk hs s =
-        let a = s.erased in
-        let b = s.kept in
-        let c = s.size in
-        rw before (record { erased = omega arith; kept = omega arith; size = omega arith; keyed = (long, s.keyed) })
+        go : (b : Bool) → outside (length v) (get_or rows i d) ≡ b → (get_or rows i d).offset + (get_or rows i d).length ≤ length v
+        go true q = let t = any_at (outside (length v)) d rows i h q in zero-is-not-one (cc)
+        go false q = ltb-false (length v) ((get_or rows i d).offset + (get_or rows i d).length) (rw y at q)
 
 -- how many bytes a present row takes
 pub present-length : (v : List ℕ) (r : Row) → length r.key ≡ 32 → r.offset + r.length ≤ length v

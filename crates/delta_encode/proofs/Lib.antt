@@ -1,5 +1,3 @@
-mod Bounds
-pub mod Bytes
 pub mod BytesOutside
 pub mod BytesWritten
 pub mod BytesWhole

@@ -2,7 +2,7 @@
 -- The limit on the number of keys is a parameter. Laws: proofs/. Assumes nothing.
 use Rattle.std.specs.Prelude.{ℕ, ◌+◌, Bool, ◌&&◌, List, [], ◌∷◌, ◌++◌, ◌≡◌, length, ltb}
 use Rattle.lists.specs.Choice.{pick, first, Rule.◌⇒◌}
-use Rattle.lists.specs.Outcome.{Outcome, refused, done, either}
+use Rattle.lists.specs.Outcome.{Outcome, refused, done}
 use Rattle.lists.specs.Splice.{part, splice}
 use Rattle.little_endian.specs.LittleEndian.{le_bytes}
 use Rattle.lists.specs.Each.{any, Every}
@@ -10,24 +10,7 @@ use Rattle.keys.specs.Sorting.{sort_by, clash}
 use Rattle.delta.specs.Table.{row_key, rows_of}
 use Rattle.delta.specs.declared.Row.{Row}
 use Rattle.delta.specs.declared.Table.{Table}
-use Rattle.delta_encode.specs.declared.Encoded.{Encoded}
-use Rattle.delta_encode.specs.declared.Encoded.TheVariants.{Written, Outside, Duplicate, Short}
 use Rattle.delta_encode.specs.declared.Sizes.{Sizes}
-
--- document 01's number, or the length written, of each answer of `encode`
-abbrev pub encode_outcome : Encoded → Outcome ℕ
-encode_outcome (Written n) = done n
-encode_outcome Outside = refused 43
-encode_outcome Duplicate = refused 42
-encode_outcome Short = refused 44
-
--- the refusal number; 0 where it is accepted
-abbrev pub encoded_number : Encoded → ℕ
-encoded_number answer = either (λ n. n) (λ n. 0) (encode_outcome answer)
-
--- the length written; 0 where it is refused
-abbrev pub encoded_length : Encoded → ℕ
-encoded_length answer = either (λ n. 0) (λ n. n) (encode_outcome answer)
 
 -- the bytes of a row's value
 abbrev pub value_of : List ℕ → Row → List ℕ

@@ -3,50 +3,16 @@
 // Assumes nothing.
 #![tactic(auto)]
 
-ghost use Rattle.std.specs.Prelude.{◌≡◌, ◌++◌, false, ◌+◌, ◌≤◌, length};
-ghost use Rattle.lists.specs.Splice.{part, splice};
+ghost use Rattle.std.specs.Prelude.{◌≡◌, ◌++◌, false, ◌+◌, ◌^◌, ◌<◌, ◌≤◌, length};
+ghost use Rattle.lists.specs.Splice.{splice};
 ghost use Rattle.little_endian.specs.LittleEndian.{le_bytes};
 ghost use Rattle.lists.specs.Each.{any};
-ghost use Rattle.delta.specs.Table.{rows_of};
-ghost use Rattle.delta_encode.specs.Bytes.{encoded_number, encoded_length, encode_outcome, outside, erase_bytes, reinstate_bytes};
-ghost use Rattle.delta_encode.specs.Bytes.{concat, encoded_of, after_of, Sized};
+ghost use Rattle.refusal.specs.Refusals.{outcome};
+ghost use Rattle.delta_encode.specs.Bytes.{outside, size_of, value_of, erase_bytes, reinstate_bytes, concat, encoded_of, after_of};
+ghost use Rattle.delta_encode.specs.Bytes.{Keyed, Sized};
 
-use delta::Table;
-
-// What encoding comes to: the length written, or a refusal.
-#[derive(Clone, Copy)]
-pub enum Encoded {
-    Written(usize),
-    Outside,
-    Duplicate,
-    Short,
-}
-
-// Document 01's number of an encoding's answer, 0 where it is accepted. Never inlined, for the stack that the C interface's encoding takes
-// (tests/abi/stack.c).
-#[inline(never)]
-pub fn encoded_number(answer: Encoded) -> u32
-    ensures { result ≡ encoded_number answer }
-{
-    match answer {
-        Encoded::Written(_) => 0,
-        Encoded::Outside => 43,
-        Encoded::Duplicate => 42,
-        Encoded::Short => 44,
-    }
-}
-
-// The length that was written, 0 beside a refusal.
-pub fn encoded_length(answer: Encoded) -> u64
-    ensures { result ≡ encoded_length answer }
-{
-    match answer {
-        Encoded::Written(n) => n as u64,
-        Encoded::Outside => 0,
-        Encoded::Duplicate => 0,
-        Encoded::Short => 0,
-    }
-}
+use delta::{Row, Table};
+use refusal::Refusal;
 
 // How many rows each group has, and the bytes in all.
 #[derive(Clone, Copy)]
@@ -56,152 +22,132 @@ struct Sizes {
     size: usize,
 }
 
-// Whether a value lies outside the n bytes that are lent.
-fn any_outside(t: Table, n: usize) -> bool
-    requires { t.count ≤ 256 }
-    ensures { result ≡ any (outside n) (rows_of t) }
+// Whether a row's value lies outside the first `limit` bytes that are lent.
+fn is_outside(row: &Row, limit: u64) -> bool
+    ensures { result ≡ outside limit row.now }
 {
-    let count = t.count;
-    let limit = n as u64;
-    let mut i: usize = 0;
-    while i < count {
-        let row = t.rows[i];
-        if row.present {
-            if limit < row.offset {
-                return true;
-            }
-            if limit - row.offset < row.length as u64 {
-                return true;
-            }
-        }
-        i += 1;
-    }
-    false
+    row.present && (limit < row.offset || limit - row.offset < row.length as u64)
 }
 
-// The length of a key, known by its type.
-fn key_size(key: [u8; 32]) -> usize
-    ensures { (result ≡ 32) × (length key ≡ 32) }
+// Whether a row's value lies outside the n bytes that are lent.
+fn any_outside(rows: &[Row], n: usize) -> bool
+    ensures { result ≡ any (outside n) rows.now }
 {
-    key.len()
+    rows.iter().any(|row| is_outside(row, n as u64))
+}
+
+// How many bytes a row takes, its key of 32 bytes among them.
+fn row_size(row: Row) -> usize
+    ensures value { result ≡ size_of row }
+    ensures bound { result < 2 ^ 33 }
+    ensures keyed { length row.key ≡ 32 }
+{
+    if row.present {
+        36 + row.length as usize
+    } else {
+        32
+    }
 }
 
 // How many rows each group has, and the bytes in all.
-fn measure(t: Table) -> Sizes
-    requires { t.count ≤ 256 }
-    ensures { Sized (rows_of t) result }
+fn measure(rows: &[Row]) -> Sizes
+    requires { length rows.now ≤ 256 }
+    ensures { Sized rows.now result }
 {
-    let mut erases: u32 = 0;
-    let mut reinstates: u32 = 0;
-    let mut size: usize = 8;
-    let mut i = t.count;
-    while 0 < i {
-        i -= 1;
-        let row = t.rows[i];
-        let key = row.key;
-        size += key_size(key);
+    let mut sizes = Sizes {
+        erases: 0,
+        reinstates: 0,
+        size: 8,
+    };
+    for row in rows {
+        sizes.size += row_size(*row);
         if row.present {
-            reinstates += 1;
-            size += 4 + row.length as usize;
+            sizes.reinstates += 1;
         } else {
-            erases += 1;
+            sizes.erases += 1;
         }
     }
-    Sizes {
-        erases,
-        reinstates,
-        size,
-    }
+    sizes
+}
+
+// A row's value.
+fn value_in<'a>(values: &'a [u8], row: &Row) -> &'a [u8]
+    requires { row.now.offset + row.now.length ≤ length values.now }
+    ensures value { result.now ≡ value_of values.now row.now }
+    ensures long { length result.now ≡ row.now.length }
+    ensures bound { length result.now < 2 ^ 32 }
+{
+    let from = row.offset as usize;
+    &values[from..from + row.length as usize]
 }
 
 // A key, the value's length and the value at a place.
-fn put_row(out: &mut [u8], at: usize, key: [u8; 32], size: u32, values: &[u8], from: usize) -> usize
-    requires size_in_bounds { at + (36 + size) ≤ length out.old }
-    requires size_in_bounds_2 { from + size ≤ length values.now }
-    ensures value { result ≡ at + (36 + size) }
-    ensures out_after { out.new ≡ splice at (key ++ (le_bytes 4 size ++ part from size values.now)) out.old }
+fn put_row(out: &mut [u8], at: usize, key: &[u8; 32], value: &[u8]) -> usize
+    requires in_bounds { at + (36 + length value.now) ≤ length out.old }
+    requires value_bound { length value.now < 2 ^ 32 }
+    ensures value { result ≡ at + (36 + length value.now) }
+    ensures out_after { out.new ≡ splice at (key.now ++ (le_bytes 4 (length value.now) ++ value.now)) out.old }
 {
-    let n = size as usize;
-    lists::copy_into(out, at, &key);
-    little_endian::write_u32(out, at + 32, size);
-    lists::copy_into(out, at + 36, &values[from..from + n]);
-    at + 36 + n
+    lists::copy_into(out, at, key);
+    little_endian::write_u32(out, at + 32, value.len() as u32);
+    lists::copy_into(out, at + 36, value);
+    at + 36 + value.len()
 }
 
 // The erase group's keys.
-fn put_erases(t: Table, out: &mut [u8], at: usize) -> usize
-    requires count_bound { t.count ≤ 256 }
-    requires t_in_bounds { at + length (concat erase_bytes (rows_of t)) ≤ length out.old }
-    ensures value { result ≡ at + length (concat erase_bytes (rows_of t)) }
-    ensures out_after { out.new ≡ splice at (concat erase_bytes (rows_of t)) out.old }
+fn put_erases(rows: &[Row], out: &mut [u8], at: usize) -> usize
+    requires keyed { Keyed rows.now }
+    requires in_bounds { at + length (concat erase_bytes rows.now) ≤ length out.old }
+    ensures value { result ≡ at + length (concat erase_bytes rows.now) }
+    ensures out_after { out.new ≡ splice at (concat erase_bytes rows.now) out.old }
 {
-    let count = t.count;
     let mut p = at;
-    let mut i: usize = 0;
-    while i < count {
-        let row = t.rows[i];
-        if row.present {
-            i += 1;
-        } else {
-            let key = row.key;
-            let n = key_size(key);
-            lists::copy_into(out, p, &key);
-            p += n;
-            i += 1;
+    for row in rows {
+        if !row.present {
+            lists::copy_into(out, p, &row.key);
+            p += row.key.len();
         }
     }
     p
 }
 
 // The reinstate group's keys, lengths and values.
-fn put_reinstates(t: Table, values: &[u8], out: &mut [u8], at: usize) -> usize
-    requires count_bound { t.count ≤ 256 }
-    requires t_value { any (outside (length values.now)) (rows_of t) ≡ false }
-    requires t_in_bounds { at + length (concat (reinstate_bytes values.now) (rows_of t)) ≤ length out.old }
-    ensures value { result ≡ at + length (concat (reinstate_bytes values.now) (rows_of t)) }
-    ensures out_after { out.new ≡ splice at (concat (reinstate_bytes values.now) (rows_of t)) out.old }
+fn put_reinstates(rows: &[Row], values: &[u8], out: &mut [u8], at: usize) -> usize
+    requires keyed { Keyed rows.now }
+    requires inside { any (outside (length values.now)) rows.now ≡ false }
+    requires in_bounds { at + length (concat (reinstate_bytes values.now) rows.now) ≤ length out.old }
+    ensures value { result ≡ at + length (concat (reinstate_bytes values.now) rows.now) }
+    ensures out_after { out.new ≡ splice at (concat (reinstate_bytes values.now) rows.now) out.old }
 {
-    let count = t.count;
     let mut p = at;
-    let mut i: usize = 0;
-    while i < count {
-        let row = t.rows[i];
+    for row in rows {
         if row.present {
-            let key = row.key;
-            let from = row.offset as usize;
-            key_size(key);
-            p = put_row(out, p, key, row.length, values, from);
-            i += 1;
-        } else {
-            i += 1;
+            p = put_row(out, p, &row.key, value_in(values, row));
         }
     }
     p
 }
 
 // The delta of a table whose values lie in `values`, written at the front of `out`; or the refusal, and `out` stays.
-pub fn encode(t: Table, values: &[u8], out: &mut [u8]) -> Encoded
-    ensures result_value { encode_outcome result ≡ encoded_of 256 t values.now out.old }
+pub fn encode(t: Table, values: &[u8], out: &mut [u8]) -> Result<usize, Refusal>
+    ensures result_value { outcome result ≡ encoded_of 256 t values.now out.old }
     ensures out_after { out.new ≡ after_of 256 t values.now out.old }
 {
     if 256 < t.count {
-        return Encoded::Outside;
+        return Err(Refusal::TableOutside);
     }
-    if any_outside(t, values.len()) {
-        return Encoded::Outside;
+    if any_outside(&t.rows[..t.count], values.len()) {
+        return Err(Refusal::TableOutside);
     }
-    let arranged = delta::arrange(t);
-    if arranged.twins {
-        return Encoded::Duplicate;
-    }
-    let u = arranged.table;
-    let sizes = measure(u);
+    let table = delta::arrange(t)?;
+    let rows = &table.rows[..table.count];
+    let sizes = measure(rows);
     if out.len() < sizes.size {
-        return Encoded::Short;
+        return Err(Refusal::OutputShort);
     }
     little_endian::write_u32(out, 0, sizes.erases);
-    let p = put_erases(u, out, 4);
+    let p = put_erases(rows, out, 4);
     little_endian::write_u32(out, p, sizes.reinstates);
-    let q = put_reinstates(u, values, out, p + 4);
-    Encoded::Written(q)
+    let q = put_reinstates(rows, values, out, p + 4);
+    Ok(q)
 }

@@ -1,6 +1,6 @@
 -- The laws of a row's answer: its cases, that it is determined by its number, that a good row's payload ends inside its slot and so
 -- inside the area, and that another row has no payload. Assumes nothing.
-use mathlib.Core.Path.{◌≡◌, refl, sym, ap, ◌∙◌}
+use mathlib.Core.Path.{◌≡◌, refl, sym, ap, ap₂, ◌∙◌}
 use mathlib.Core.Bool.{Bool, true, false, ◌&&◌, ◌||◌, not}
 use mathlib.Core.List.{List, [], ◌∷◌}
 use Prim.Native.Nat.{ℕ, ◌+◌, ◌*◌, ◌≤◌, ◌<◌}
@@ -15,32 +15,39 @@ use Rattle.lists.proofs.Bools.{and_both, clash}
 use Rattle.seglog.specs.declared.Log.{Log}
 use Rattle.seglog.specs.View.{plain_of, view_of}
 use Rattle.seglog.specs.Fit.{fitting_of, shaped_of}
-use Rattle.delta.specs.Reading.{decoded_of}
-use Rattle.payload.specs.declared.RowAnswer.{RowAnswer}
-use Rattle.payload.specs.declared.RowAnswer.TheVariants.{Good, NotShaped, Outside}
+use Rattle.delta.specs.declared.Decoded.{Decoded}
+use Rattle.delta.specs.Reading.{decode_outcome, decoded_of}
+use Rattle.std.specs.Prelude.{Result, Ok, Err}
+use Rattle.refusal.specs.declared.Refusal.{Refusal}
+use Rattle.refusal.specs.declared.Refusal.TheVariants.{OutputShort}
+use Rattle.refusal.proofs.Refusals.{refusal_of, number-back, numbers-differ}
+use Rattle.refusal.specs.Refusals.{number}
 use Rattle.payload.specs.Row.{row_number, outside_of, row_question, GoodRow, payload_of}
-use Rattle.payload.specs.PayloadDelta.{no_delta, delta_answer, payload_delta}
+use Rattle.payload.specs.PayloadDelta.{PayloadDelta, no_delta, delta_answer, payload_delta}
 
 -- ---- an answer and its number
 
--- an answer that isn't good has a number
-pub row-refused : (q : RowAnswer) → (q ≡ Good → ⊥) → row_number q ≡ 0 → ⊥
-row-refused Good o e = o refl
-row-refused NotShaped o e = omega arith
-row-refused Outside o e = omega arith
-
--- the answer of a number
-abbrev row_by : ℕ → RowAnswer
-row_by n = first ((eqb n 0 ⇒ Good) ∷ (eqb n 2 ⇒ NotShaped) ∷ []) Outside
-
-row-by : (q : RowAnswer) → row_by (row_number q) ≡ q
-row-by Good = refl
-row-by NotShaped = refl
-row-by Outside = refl
+-- a refusal's number is not 0
+pub row-refused : (r : Refusal) → number r ≡ 0 → ⊥
+row-refused r e =
+    let back : OutputShort ≡ r = ap refusal_of (sym e) ∙ number-back r in
+    let n : number r ≡ 44 = ap number (sym back) in
+    omega arith
 
 -- an answer is determined by its number
-pub row-determined : (q q' : RowAnswer) → row_number q ≡ row_number q' → q ≡ q'
-row-determined q q' e = sym (row-by q) ∙ ap row_by e ∙ row-by q'
+pub row-determined : (q q' : Result (Unit {0}) Refusal) → row_number q ≡ row_number q' → q ≡ q'
+row-determined (Ok u) (Ok v) e = refl
+row-determined (Ok u) (Err r) e = absurd (row-refused r (sym e))
+row-determined (Err r) (Ok u) e = absurd (row-refused r e)
+row-determined (Err r) (Err r') e = ap Err (numbers-differ r r' e)
+
+-- a row's delta is determined by its number, the bytes consumed and the rows
+pub delta-determined : (d d' : Result Decoded Refusal) → delta_answer (decode_outcome d) ≡ delta_answer (decode_outcome d') → d ≡ d'
+delta-determined (Ok d) (Ok d') e =
+    ap₂ (λ n t. Ok (record { consumed = n; table = t })) (ap (λ (x : PayloadDelta). x.consumed) e) (ap (λ (x : PayloadDelta). x.table) e)
+delta-determined (Ok d) (Err r) e = absurd (row-refused r (sym (ap (λ (x : PayloadDelta). x.refusal) e)))
+delta-determined (Err r) (Ok d) e = absurd (row-refused r (ap (λ (x : PayloadDelta). x.refusal) e))
+delta-determined (Err r) (Err r') e = ap Err (numbers-differ r r' (ap (λ (x : PayloadDelta). x.refusal) e))
 
 -- ---- a row's answer
 

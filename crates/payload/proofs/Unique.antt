@@ -3,8 +3,7 @@
 use mathlib.Core.Path.{◌≡◌}
 use Rattle.lists.specs.Unique.{UniqueAnswer}
 use Rattle.lists.proofs.Unique.{unique}
-use Rattle.payload.proofs.Row.{row-determined}
-use Rattle.payload.proofs.row_number.Reads as row_number
+use Rattle.payload.proofs.Row.{row-determined, delta-determined}
 use Rattle.payload.proofs.row_question.Reads as row-question
 use Rattle.payload.proofs.payload_delta.Reads as payload-delta
 use Rattle.payload.proofs.payload.Reads as payload
@@ -12,9 +11,6 @@ use Rattle.payload.proofs.payload.Kinds as Payload
 use borrow.Fn.Kinds.{Dens, ended_of, res_t}
 use contract.Lifetimes.{Lfts}
 use denote.Triple.Clauses.{AtExit}
-
-pub row-number-unique : UniqueAnswer row_number.Learnt
-row-number-unique κs a r r' e e' = unique
 
 pub row-question-unique : UniqueAnswer row-question.Learnt
 row-question-unique κs a r r' e e' p q = row-determined r r' (unique p q)
@@ -25,4 +21,4 @@ pub payload-unique : (κs : Lfts 1) (a : Dens κs Payload.ps) (r r' : (res_t Pay
 payload-unique κs a r r' e e' = unique
 
 pub payload-delta-unique : UniqueAnswer payload-delta.Learnt
-payload-delta-unique κs a r r' e e' = unique
+payload-delta-unique κs a r r' e e' p q = delta-determined r r' (unique p q)

@@ -6,8 +6,14 @@ use Rattle.lists.specs.Splice.{part}
 use Rattle.seglog.specs.declared.Log.{Log}
 use Rattle.delta.specs.Table.{table_of}
 use Rattle.delta.specs.Reading.{DecodeOutcome, decoded_of}
-use Rattle.payload.specs.declared.PayloadDelta.{PayloadDelta}
+use Rattle.delta.specs.declared.Table.{Table}
 use Rattle.payload.specs.Row.{row_question}
+
+-- what asking for a row's delta comes to: a refusal's number or 0, the bytes consumed, the rows
+pub record PayloadDelta : Type 0 where
+  pub refusal : ℕ
+  pub consumed : ℕ
+  pub table : Table
 
 -- a refusal before decoding: its number, and no rows
 abbrev pub no_delta : ℕ → PayloadDelta

@@ -1,18 +1,17 @@
 -- An index row asked for: 2, 24 or good, and its payload as a part of the area. Laws: proofs/Row.antt.
 -- Assumes nothing.
-use Rattle.std.specs.Prelude.{List, [], ◌∷◌, Bool, ◌||◌, not, ℕ, ◌+◌, ◌*◌, ◌≤◌, ◌<◌, length, eqb, ltb, leb}
+use Rattle.std.specs.Prelude.{List, [], ◌∷◌, Bool, ◌||◌, not, ℕ, ◌+◌, ◌*◌, ◌≤◌, ◌<◌, length, eqb, ltb, leb, Result}
 use Rattle.lists.specs.Choice.{pick, ◌⇒◌, first}
+use Rattle.lists.specs.Outcome.{either}
 use Rattle.lists.specs.Splice.{part}
 use Rattle.seglog.specs.declared.Log.{Log}
 use Rattle.seglog.specs.Fit.{fitting_of}
-use Rattle.payload.specs.declared.RowAnswer.{RowAnswer}
-use Rattle.payload.specs.declared.RowAnswer.TheVariants.{Good, NotShaped, Outside}
+use Rattle.refusal.specs.declared.Refusal.{Refusal}
+use Rattle.refusal.specs.Refusals.{outcome}
 
--- document 01's number of each case
-abbrev pub row_number : RowAnswer → ℕ
-row_number Good = 0
-row_number NotShaped = 2
-row_number Outside = 24
+-- document 01's number of an answer, 0 where the row is good
+abbrev pub row_number : Result (Unit {0}) Refusal → ℕ
+row_number answer = either (λ n. n) (λ u. 0) (outcome answer)
 
 -- "row asked for (after 2): slot >= K, or offset + length above C as whole numbers"
 unfoldable pub outside_of : Log → (slot offset length : ℕ) → Bool

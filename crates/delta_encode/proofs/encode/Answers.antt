@@ -1,123 +1,87 @@
 -- `delta_encode::encode` meets its contract: each answer by the tests that led there, and the four parts one behind the other.
 -- Assumes nothing.
-use Prim.Native.Nat.{ℕ, ◌≤◌}
-use mathlib.Core.List.{List}
-use mathlib.Core.Path.{ap, sym, ◌∙◌}
-use lib.ListN.{length}
-use native.Mathlib.Omega.{arith}
+use Rattle.std.proofs.Common.{ℕ, List, Err, ◌≤◌, length, ap, sym, ◌∙◌, arith}
 use Rattle.lists.specs.Splice.{splice}
+use Rattle.lists.proofs.Outcome.{handed-on}
+use Rattle.refusal.specs.Refusals.{outcome}
 use Rattle.delta.specs.Table.{rows_of}
-use Rattle.delta.proofs.TableArranged.{arranged-clash}
 use Rattle.delta_encode.specs.Bytes.{bytes_of}
-use Rattle.delta_encode.proofs.BytesWhole.{Known, known, arranged-few, four-parts, ends-many, ends-outside, ends-twins, ends-short}
-use Rattle.delta_encode.proofs.BytesWhole.{ends-written}
+use Rattle.delta_encode.proofs.BytesWhole.{known, four-parts, arranged-refused, ends-many, ends-outside, ends-twins, ends-short, ends-written}
 use Rattle.delta_encode.proofs.encode.Goals as goal
 
 pub returns-then-t-gt256 : goal.returns-then-t-gt256
 returns-then-t-gt256 c =
-    let a = c.args in let both = ends-many 256 a.t a.values.now a.out.now (omega arith) in
+    let a = c.args in
+    let both = ends-many 256 a.t a.values.now a.out.now (omega arith) in
     record { result_value = both.0; out_after = both.1 }
 
 pub returns-then-any_outside : goal.returns-then-any_outside
 returns-then-any_outside c =
-    let a = c.args in let both = ends-outside 256 a.t a.values.now a.out.now (omega arith) (sym c.any_outside.ensures ∙ c.if-any_outside.true) in
-    record { result_value = both.0; out_after = both.1 }
-
-pub returns-then-arranged : goal.returns-then-arranged
-returns-then-arranged c =
-    let a = c.args in let both = ends-twins 256 a.t a.values.now a.out.now (omega arith) (sym c.any_outside.ensures ∙ c.if-any_outside.false)
-    (arranged-clash (rows_of a.t) c.arrange-arranged.result c.arrange-arranged.ensures ∙ c.if-arranged.true) in
-    record { result_value = both.0; out_after = both.1 }
-
-pub measure-sizes-requires : goal.measure-sizes-requires
-measure-sizes-requires c =
     let a = c.args in
-    arranged-few a.t c.arrange-arranged.result (omega arith) c.arrange-arranged.ensures c.if-arranged.false
+    let both = ends-outside 256 a.t a.values.now a.out.now (omega arith) (sym c.any_outside.ensures ∙ c.if-any_outside.true) in
+    record { result_value = both.0; out_after = both.1 }
+
+pub returns-in_err-table : goal.returns-in_err-table
+returns-in_err-table c =
+    let a = c.args in
+    let inside = sym c.any_outside.ensures ∙ c.if-any_outside.false in
+    let r = c.in_err-table.field-0.0 in
+    let d = arranged-refused (rows_of a.t) r (ap outcome (sym c.in_err-table.was) ∙ c.arrange.ensures) in
+    let both = ends-twins 256 a.t a.values.now a.out.now (omega arith) inside d.1 in
+    record {
+      result_value = ap outcome (handed-on c.from_residual.result r c.from_residual.ensures.1 ∙ ap Err d.0) ∙ both.0;
+      out_after = both.1;
+    }
 
 pub returns-then-out-sizes : goal.returns-then-out-sizes
 returns-then-out-sizes c =
-    let at-measure : Known c.args.values.now
-    c.args.t
-    c.arrange-arranged.result.table c.measure-sizes.result = let a = c.args in
-    known a.t c.arrange-arranged.result (omega arith) c.arrange-arranged.ensures c.if-arranged.false a.values.now
-    c.measure-sizes.result
-    (sym c.any_outside.ensures ∙ c.if-any_outside.false) c.measure-sizes.ensures in
     let a = c.args in
-    let k = at-measure in
-    let n = k.size in let both = ends-short 256 a.t a.values.now a.out.now (omega arith) (sym c.any_outside.ensures ∙ c.if-any_outside.false)
-    (arranged-clash (rows_of a.t) c.arrange-arranged.result c.arrange-arranged.ensures ∙ c.if-arranged.false) (omega arith) in
+    let inside = sym c.any_outside.ensures ∙ c.if-any_outside.false in
+    let k = known a.t c.in_ok-table.table (omega arith) (ap outcome (sym c.in_ok-table.was) ∙ c.arrange.ensures) a.values.now c.measure-sizes.result inside c.measure-sizes.ensures in
+    let n = k.size in
+    let both = ends-short 256 a.t a.values.now a.out.now (omega arith) inside k.once (omega arith) in
     record { result_value = both.0; out_after = both.1 }
 
 pub put_erases-p-requires : goal.put_erases-p-requires
 put_erases-p-requires c =
-    let at-measure : Known c.args.values.now
-    c.args.t
-    c.arrange-arranged.result.table c.measure-sizes.result = let a = c.args in
-    known a.t c.arrange-arranged.result (omega arith) c.arrange-arranged.ensures c.if-arranged.false a.values.now
-    c.measure-sizes.result
-    (sym c.any_outside.ensures ∙ c.if-any_outside.false) c.measure-sizes.ensures in
-    let at-few : c.arrange-arranged.result.table.count ≤ 256 = arranged-few c.args.t c.arrange-arranged.result (omega arith)
-    c.arrange-arranged.ensures
-    c.if-arranged.false in
-    let k = at-measure in
-    let n = k.size in
-    let p = k.parts in
-    record { count_bound = at-few; t_in_bounds = omega arith }
+    let a = c.args in
+    let inside = sym c.any_outside.ensures ∙ c.if-any_outside.false in
+    let k = known a.t c.in_ok-table.table (omega arith) (ap outcome (sym c.in_ok-table.was) ∙ c.arrange.ensures) a.values.now c.measure-sizes.result inside c.measure-sizes.ensures in
+    record { keyed = c.measure-sizes.ensures.keyed; in_bounds = omega (arith, k.size, k.parts) }
 
 pub overflow_add-p : goal.overflow_add-p
 overflow_add-p c =
-    let at-measure : Known c.args.values.now
-    c.args.t
-    c.arrange-arranged.result.table c.measure-sizes.result = let a = c.args in
-    known a.t c.arrange-arranged.result (omega arith) c.arrange-arranged.ensures c.if-arranged.false a.values.now
-    c.measure-sizes.result
-    (sym c.any_outside.ensures ∙ c.if-any_outside.false) c.measure-sizes.ensures in
-    let k = at-measure in
-    let n = k.size in
-    let p = k.parts in
-    let q = c.put_erases-p.ensures.value in
-    let l = c.well_formed in
-    omega (arith, c.if-out-sizes.false)
+    let a = c.args in
+    let inside = sym c.any_outside.ensures ∙ c.if-any_outside.false in
+    let k = known a.t c.in_ok-table.table (omega arith) (ap outcome (sym c.in_ok-table.was) ∙ c.arrange.ensures) a.values.now c.measure-sizes.result inside c.measure-sizes.ensures in
+    omega (arith, k.size, k.parts, c.put_erases-p.ensures.value, c.if-out-sizes.false, c.well_formed)
 
 pub put_reinstates-q-requires : goal.put_reinstates-q-requires
 put_reinstates-q-requires c =
-    let at-measure : Known c.args.values.now
-    c.args.t
-    c.arrange-arranged.result.table c.measure-sizes.result = let a = c.args in
-    known a.t c.arrange-arranged.result (omega arith) c.arrange-arranged.ensures c.if-arranged.false a.values.now
-    c.measure-sizes.result
-    (sym c.any_outside.ensures ∙ c.if-any_outside.false) c.measure-sizes.ensures in
-    let at-few : c.arrange-arranged.result.table.count ≤ 256 = arranged-few c.args.t c.arrange-arranged.result (omega arith)
-    c.arrange-arranged.ensures
-    c.if-arranged.false in
-    let k = at-measure in
-    let n = k.size in
-    let p = k.parts in
-    let q = c.put_erases-p.ensures.value in
-    let g = c.if-out-sizes.false in record { count_bound = at-few; t_value = k.none; t_in_bounds = omega arith }
+    let a = c.args in
+    let inside = sym c.any_outside.ensures ∙ c.if-any_outside.false in
+    let k = known a.t c.in_ok-table.table (omega arith) (ap outcome (sym c.in_ok-table.was) ∙ c.arrange.ensures) a.values.now c.measure-sizes.result inside c.measure-sizes.ensures in
+    record {
+      keyed = c.measure-sizes.ensures.keyed;
+      inside = k.none;
+      in_bounds = omega (arith, k.size, k.parts, c.put_erases-p.ensures.value, c.if-out-sizes.false);
+    }
 
 pub returns : goal.returns
 returns c =
-    let at-measure : Known c.args.values.now
-    c.args.t
-    c.arrange-arranged.result.table c.measure-sizes.result = let a = c.args in
-    known a.t c.arrange-arranged.result (omega arith) c.arrange-arranged.ensures c.if-arranged.false a.values.now
-    c.measure-sizes.result
-    (sym c.any_outside.ensures ∙ c.if-any_outside.false) c.measure-sizes.ensures in
     let a = c.args in
-    let ys = rows_of c.arrange-arranged.result.table in
-    let k = at-measure in
+    let m = c.measure-sizes.result in
+    let inside = sym c.any_outside.ensures ∙ c.if-any_outside.false in
+    let k = known a.t c.in_ok-table.table (omega arith) (ap outcome (sym c.in_ok-table.was) ∙ c.arrange.ensures) a.values.now m inside c.measure-sizes.ensures in
     let n = k.size in
     let p = k.parts in
     let q = c.put_erases-p.ensures.value in
     let l = c.put_reinstates-q.ensures.value in
-    let g : length (bytes_of a.t a.values.now) ≤ length a.out.now = omega (arith, c.if-out-sizes.false) in
-    let f = four-parts a.values.now a.out.now ys c.measure-sizes.result.erases c.measure-sizes.result.reinstates
-    c.put_erases-p.result
-    c.put_reinstates-q.result c.write_u32.new.out c.put_erases-p.new.out c.write_u32-2.new.out
-    c.put_reinstates-q.new.out
+    let room : length (bytes_of a.t a.values.now) ≤ length a.out.now = omega (arith, c.if-out-sizes.false) in
+    let parts = four-parts a.values.now a.out.now (rows_of c.in_ok-table.table) m.erases m.reinstates c.put_erases-p.result
+    c.put_reinstates-q.result c.write_u32.new.out c.put_erases-p.new.out c.write_u32-2.new.out c.put_reinstates-q.new.out
     c.measure-sizes.ensures.erased c.measure-sizes.ensures.kept q c.write_u32.ensures c.put_erases-p.ensures.out_after c.write_u32-2.ensures
-    c.put_reinstates-q.ensures.out_after in let both = ends-written 256 a.t a.values.now a.out.now (omega arith) (sym c.any_outside.ensures ∙ c.if-any_outside.false)
-    (arranged-clash (rows_of a.t) c.arrange-arranged.result c.arrange-arranged.ensures ∙ c.if-arranged.false) g c.put_reinstates-q.result
-    c.put_reinstates-q.new.out (omega arith) (f ∙ ap (λ (b : List ℕ). splice 0 b a.out.now) (sym k.bytes)) in
+    c.put_reinstates-q.ensures.out_after in
+    let both = ends-written 256 a.t a.values.now a.out.now (omega arith) inside k.once room c.put_reinstates-q.result c.put_reinstates-q.new.out
+    (omega arith) (parts ∙ ap (λ (b : List ℕ). splice 0 b a.out.now) (sym k.bytes)) in
     record { result_value = both.0; out_after = both.1 }

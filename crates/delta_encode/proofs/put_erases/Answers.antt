@@ -1,90 +1,33 @@
--- `delta_encode::put_erases` meets its contract. The loop's invariant: what the rows from i on give is left to be written.
--- The measure is the number of rows left. Assumes nothing.
-use Prim.Native.Nat.{◌≤◌, ◌<◌, ◌+◌, ◌^◌}
-use mathlib.Core.List.{[]}
-use mathlib.Core.Path.{◌≡◌, refl, subst}
-use lib.ListN.{length, drop}
-use native.Mathlib.Omega.{arith}
-use Rattle.lists.proofs.Arrays.{unmapped}
-use Rattle.delta.specs.Table.{erased, rows_of, row_at}
-use Rattle.lists.proofs.Bounds.{index_below, index-falls, index-fits, index-up}
+-- `delta_encode::put_erases` meets its contract: an absent row's key is the next piece, and a present row gives none. Assumes nothing.
+use Rattle.std.proofs.Common.{[], ◌+◌, ◌≡◌, length, get_or, drop, arith}
+use Rattle.lists.proofs.Each.{every-at}
+use Rattle.delta.specs.Table.{erased}
 use Rattle.delta_encode.specs.Bytes.{concat, erase_bytes}
-use Rattle.delta_encode.proofs.Bounds.{row_fits, rows-within, key-end, key_fits}
-use Rattle.delta_encode.proofs.BytesWritten.{Writing, writing_start, writing_step, writing-room}
-use Rattle.delta_encode.proofs.BytesWritten.{writing-end, concat-end, erase-absent}
-use Rattle.delta_encode.proofs.BytesWritten.{erase-present}
-use borrow.Author.Rules.{rules}
+use Rattle.delta_encode.proofs.BytesWritten.{writing_step, writing-end, concat-end, erase-absent, erase-present}
+use Rattle.delta_encode.proofs.put_erases.Goals.{then-not-row, else-not-row}
 use Rattle.delta_encode.proofs.put_erases.Goals as goal
 
-pub loop-i-init : goal.loop-i-init
-loop-i-init c =
-    let long-at : length c.args.t.rows ≡ 256 = search (rules, unmapped) in
-    ((omega arith), long-at, writing_start _ _ _ _ refl)
-
-pub offset_bounds-t-i : goal.offset_bounds-t-i
-offset_bounds-t-i c = row_fits c.loop-i-test.true c.requires.count_bound
-
-pub bounds-t-i : goal.bounds-t-i
-bounds-t-i c = index_below c.loop-i-test.true c.requires.count_bound
-
-pub overflow_add-i : goal.overflow_add-i
-overflow_add-i c = index-fits c.loop-i-test.true c.requires.count_bound
-
-pub loop-i-smaller-then-row : goal.loop-i-smaller-then-row
-loop-i-smaller-then-row c = index-falls c.loop-i-test.true
-
-pub loop-i-preserved-then-row : goal.loop-i-preserved-then-row
-loop-i-preserved-then-row c =
-    let listed : c.args.t.count ≤ length c.args.t.rows = rows-within c.requires.count_bound c.loop-i.invariant.1 in
-    let a = c.args in (
-      index-up c.loop-i-test.true,
-      c.loop-i.invariant.1,
-      subst (λ r. Writing a.out.now a.at (concat erase_bytes (rows_of a.t)) c.loop-i.out c.loop-i.p r)
-          (erase-present a.t.rows a.t.count c.loop-i.i listed (erased []) c.loop-i-test.true c.if-row.true)
-          c.loop-i.invariant.2,
-    )
-
-pub overflow_add-p : goal.overflow_add-p
-overflow_add-p c =
-    let bytes-at : length c.args.out.now < 2 ^ 63 = omega (arith, c.well_formed) in
-    let listed : c.args.t.count ≤ length c.args.t.rows = rows-within c.requires.count_bound c.loop-i.invariant.1 in
+pub loop-row-preserved : goal.loop-row-preserved
+loop-row-preserved c =
     let a = c.args in
-    let h : length (row_at a.t c.loop-i.i).key ≡ 32 = c.key_size-n.ensures.1 in
-    let k : c.key_size-n.result ≡ 32 = c.key_size-n.ensures.0 in
-    let r = writing-room a.out.now a.at (concat erase_bytes (rows_of a.t)) c.loop-i.out c.loop-i.p
-    (concat erase_bytes (drop c.loop-i.i (rows_of a.t))) c.loop-i.invariant.2
-    (row_at a.t c.loop-i.i).key (concat erase_bytes (drop (c.loop-i.i + 1) (rows_of a.t))) c.requires.t_in_bounds
-    (erase-absent a.t.rows a.t.count c.loop-i.i listed (erased []) c.loop-i-test.true c.if-row.false) in
-    key_fits c.loop-i.p _ k h r c.loop-i.invariant.2.long bytes-at
-
-pub overflow_add-i-else-row : goal.overflow_add-i-else-row
-overflow_add-i-else-row c =
-    index-fits c.loop-i-test.true
-    c.requires.count_bound
-
-pub loop-i-smaller : goal.loop-i-smaller
-loop-i-smaller c = index-falls c.loop-i-test.true
-
-pub loop-i-preserved : goal.loop-i-preserved
-loop-i-preserved c =
-    let listed : c.args.t.count ≤ length c.args.t.rows = rows-within c.requires.count_bound c.loop-i.invariant.1 in
-    let a = c.args in
-    let h : length (row_at a.t c.loop-i.i).key ≡ 32 = c.key_size-n.ensures.1 in
-    let k : c.key_size-n.result ≡ 32 = c.key_size-n.ensures.0 in (
-      index-up c.loop-i-test.true,
-      c.loop-i.invariant.1,
-      writing_step a.out.now a.at (concat erase_bytes (rows_of a.t)) c.loop-i.out c.loop-i.p
-          (concat erase_bytes (drop c.loop-i.i (rows_of a.t))) c.loop-i.invariant.2
-          (row_at a.t c.loop-i.i).key (concat erase_bytes (drop (c.loop-i.i + 1) (rows_of a.t))) c.copy_into.new.out
-          (c.loop-i.p + c.key_size-n.result)
-          (erase-absent a.t.rows a.t.count c.loop-i.i listed (erased []) c.loop-i-test.true
-          c.if-row.false)
-          c.copy_into.ensures (key-end c.loop-i.p k h),
-    )
+    let rows = a.rows.now in
+    let i = c.loop-row.row-index in
+    let d = erased [] in
+    let bytes = concat erase_bytes in
+    let more = bytes (drop (i + 1) rows) in
+    elim c.if-not-row.branch [
+      | then-not-row w ↦
+          let k = every-at (λ r. length r.key ≡ 32) d rows i c.requires.keyed c.loop-row-test.true in
+          writing_step a.out.now a.at (bytes rows) c.loop-row.out c.loop-row.p (bytes (drop i rows)) c.loop-row.invariant
+          (get_or rows i d).key more c.if-not-row.out c.if-not-row.p
+          (erase-absent rows i d c.loop-row-test.true w.if-not-row.true) (cc) (omega (arith, w.p-is))
+      | else-not-row w ↦
+          rw (w.out-is, w.p-is, ← erase-present rows i d c.loop-row-test.true w.if-not-row.false) c.loop-row.invariant
+    ]
 
 pub returns : goal.returns
 returns c =
-    let listed : c.args.t.count ≤ length c.args.t.rows = rows-within c.requires.count_bound c.loop-i.invariant.1 in
-    let a = c.args in let both = writing-end a.out.now a.at (concat erase_bytes (rows_of a.t)) c.loop-i.out c.loop-i.p _ c.loop-i.invariant.2
-    (concat-end a.t.rows a.t.count c.loop-i.i listed erase_bytes c.loop-i-test.false) in
+    let a = c.args in
+    let both = writing-end a.out.now a.at (concat erase_bytes a.rows.now) c.loop-row.out c.loop-row.p _ c.loop-row.invariant
+    (concat-end a.rows.now c.loop-row.row-index erase_bytes c.loop-row-test.false) in
     record { value = both.0; out_after = both.1 }

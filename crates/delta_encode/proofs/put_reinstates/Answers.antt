@@ -1,100 +1,64 @@
--- `delta_encode::put_reinstates` meets its contract. The loop's invariant: what the rows from i on give is left to be written, and no
--- value of theirs lies outside. The measure is the number of rows left. Assumes nothing.
-use Prim.Native.Nat.{◌≤◌, ◌+◌}
-use mathlib.Core.List.{[], ◌++◌}
-use mathlib.Core.Path.{◌≡◌, refl, subst}
-use lib.ListN.{length, drop}
+-- `delta_encode::put_reinstates` meets its contract: a present row's key, length and value are the next piece, and an absent row gives
+-- none. Assumes nothing.
+use Rattle.std.proofs.Common.{[], ◌++◌, ◌+◌, ◌≡◌, length, get_or, drop, arith, ◌∙◌}
+use Rattle.lists.proofs.Each.{every-at}
+use Rattle.lists.specs.Splice.{splice}
 use Rattle.little_endian.specs.LittleEndian.{le_bytes}
-use Rattle.lists.proofs.Arrays.{unmapped}
-use Rattle.delta.specs.Table.{erased, rows_of, row_at}
-use Rattle.lists.proofs.Bounds.{index_below, index-falls, index-fits, index-up}
+use Rattle.delta.specs.Table.{erased}
 use Rattle.delta_encode.specs.Bytes.{concat, reinstate_bytes, value_of}
-use Rattle.delta_encode.proofs.Bounds.{row_fits, rows-within, piece-room, piece-end}
-use Rattle.delta_encode.proofs.BytesWritten.{Writing, writing_start, writing_step, writing-room, writing-end, concat-end}
-use Rattle.delta_encode.proofs.BytesWritten.{reinstate-present, reinstate-absent, inside, present-length}
-use borrow.Author.Rules.{rules}
-use native.Mathlib.Omega.{arith}
+use Rattle.delta_encode.proofs.BytesWritten.{writing_step, writing-room, writing-end, concat-end, reinstate-absent, reinstate-present}
+use Rattle.delta_encode.proofs.BytesWritten.{inside, present-length}
+use Rattle.delta_encode.proofs.put_reinstates.Goals.{then-row, else-row}
 use Rattle.delta_encode.proofs.put_reinstates.Goals as goal
 
-pub loop-i-init : goal.loop-i-init
-loop-i-init c =
-    let long-at : length c.args.t.rows ≡ 256 = search (rules, unmapped) in
-    ((omega arith), long-at, c.requires.t_value, writing_start _ _ _ _ refl)
+pub value_in-requires : goal.value_in-requires
+value_in-requires c = inside c.args.rows.now c.loop-row.row-index (erased []) c.loop-row-test.true c.args.values.now c.requires.inside c.if-row.true
 
-pub offset_bounds-t-i : goal.offset_bounds-t-i
-offset_bounds-t-i c = row_fits c.loop-i-test.true c.requires.count_bound
-
-pub bounds-t-i : goal.bounds-t-i
-bounds-t-i c = index_below c.loop-i-test.true c.requires.count_bound
-
-pub put_row-p-requires : goal.put_row-p-requires
-put_row-p-requires c =
-    let listed : c.args.t.count ≤ length c.args.t.rows = rows-within c.requires.count_bound c.loop-i.invariant.1 in
+pub put_row-p-requires-clause-in_bounds : goal.put_row-p-requires-clause-in_bounds
+put_row-p-requires-clause-in_bounds c =
     let a = c.args in
-    let row = row_at a.t c.loop-i.i in
-    let y = c.if-row.true in
-    let n = inside a.t.rows a.t.count c.loop-i.i listed (erased []) c.loop-i-test.true a.values.now
-    c.loop-i.invariant.2 in
-    let k = present-length a.values.now row c.key_size.ensures.1 (n.1 y) in
-    let r = writing-room a.out.now a.at (concat (reinstate_bytes a.values.now) (rows_of a.t)) c.loop-i.out c.loop-i.p
-    (concat (reinstate_bytes a.values.now) (drop c.loop-i.i (rows_of a.t))) c.loop-i.invariant.3
-    (row.key ++ (le_bytes 4 row.length ++ value_of a.values.now row))
-    (concat (reinstate_bytes a.values.now) (drop (c.loop-i.i + 1) (rows_of a.t))) c.requires.t_in_bounds
-    (reinstate-present a.t.rows a.t.count c.loop-i.i listed (erased []) c.loop-i-test.true a.values.now y) in record { size_in_bounds = piece-room c.loop-i.p _ r k; size_in_bounds_2 = n.1 y }
+    let v = a.values.now in
+    let rows = a.rows.now in
+    let i = c.loop-row.row-index in
+    let d = erased [] in
+    let r = get_or rows i d in
+    let f = concat (reinstate_bytes v) in
+    let k = every-at (λ x. length x.key ≡ 32) d rows i c.requires.keyed c.loop-row-test.true in
+    let n = present-length v r k (inside rows i d c.loop-row-test.true v c.requires.inside c.if-row.true) in
+    let room = writing-room a.out.now a.at (f rows) c.loop-row.out c.loop-row.p (f (drop i rows)) c.loop-row.invariant
+    (r.key ++ (le_bytes 4 r.length ++ value_of v r)) (f (drop (i + 1) rows)) c.requires.in_bounds
+    (reinstate-present rows i d c.loop-row-test.true v c.if-row.true) in
+    omega (arith, c.value_in.ensures.long)
 
-pub overflow_add-i : goal.overflow_add-i
-overflow_add-i c =
-    index-fits c.loop-i-test.true
-    c.requires.count_bound
-
-pub loop-i-smaller-then-row : goal.loop-i-smaller-then-row
-loop-i-smaller-then-row c = index-falls c.loop-i-test.true
-
-pub loop-i-preserved-then-row : goal.loop-i-preserved-then-row
-loop-i-preserved-then-row c =
-    let listed : c.args.t.count ≤ length c.args.t.rows = rows-within c.requires.count_bound c.loop-i.invariant.1 in
+pub loop-row-preserved : goal.loop-row-preserved
+loop-row-preserved c =
     let a = c.args in
-    let row = row_at a.t c.loop-i.i in
-    let y = c.if-row.true in
-    let s = inside a.t.rows a.t.count c.loop-i.i listed (erased []) c.loop-i-test.true a.values.now
-    c.loop-i.invariant.2 in
-    let k = present-length a.values.now row c.key_size.ensures.1 (s.1 y) in
-    let q : c.put_row-p.result ≡ c.loop-i.p + (36 + row.length) = c.put_row-p.ensures.value in (
-      index-up c.loop-i-test.true,
-      c.loop-i.invariant.1,
-      s.0,
-      writing_step a.out.now a.at (concat (reinstate_bytes a.values.now) (rows_of a.t)) c.loop-i.out c.loop-i.p
-          (concat (reinstate_bytes a.values.now) (drop c.loop-i.i (rows_of a.t))) c.loop-i.invariant.3
-          (row.key ++ (le_bytes 4 row.length ++ value_of a.values.now row))
-          (concat (reinstate_bytes a.values.now) (drop (c.loop-i.i + 1) (rows_of a.t))) c.put_row-p.new.out c.put_row-p.result
-          (reinstate-present a.t.rows a.t.count c.loop-i.i listed (erased []) c.loop-i-test.true a.values.now y)
-          c.put_row-p.ensures.out_after (piece-end c.loop-i.p q k),
-    )
-
-pub overflow_add-i-else-row : goal.overflow_add-i-else-row
-overflow_add-i-else-row c = index-fits c.loop-i-test.true c.requires.count_bound
-
-pub loop-i-smaller : goal.loop-i-smaller
-loop-i-smaller c = index-falls c.loop-i-test.true
-
-pub loop-i-preserved : goal.loop-i-preserved
-loop-i-preserved c =
-    let listed : c.args.t.count ≤ length c.args.t.rows = rows-within c.requires.count_bound c.loop-i.invariant.1 in
-    let a = c.args in
-    let s = inside a.t.rows a.t.count c.loop-i.i listed (erased []) c.loop-i-test.true a.values.now
-    c.loop-i.invariant.2 in (
-      index-up c.loop-i-test.true,
-      c.loop-i.invariant.1,
-      s.0,
-      subst (λ r. Writing a.out.now a.at (concat (reinstate_bytes a.values.now) (rows_of a.t)) c.loop-i.out c.loop-i.p r)
-          (reinstate-absent a.t.rows a.t.count c.loop-i.i listed (erased []) c.loop-i-test.true a.values.now
-          c.if-row.false) c.loop-i.invariant.3,
-    )
+    let v = a.values.now in
+    let rows = a.rows.now in
+    let i = c.loop-row.row-index in
+    let d = erased [] in
+    let r = get_or rows i d in
+    let f = concat (reinstate_bytes v) in
+    elim c.if-row.branch [
+      | then-row w ↦
+          let k = every-at (λ x. length x.key ≡ 32) d rows i c.requires.keyed c.loop-row-test.true in
+          let n = present-length v r k (inside rows i d c.loop-row-test.true v c.requires.inside w.if-row.true) in
+          let l : length w.value_in.result.now ≡ r.length = w.value_in.ensures.long in
+          let q : c.if-row.p ≡ c.loop-row.p + length (r.key ++ (le_bytes 4 r.length ++ value_of v r)) =
+          omega (arith, w.p-is, w.put_row-p.ensures.value) in
+          let o : c.if-row.out ≡ splice c.loop-row.p (r.key ++ (le_bytes 4 r.length ++ value_of v r)) c.loop-row.out =
+          w.out-is ∙ rw (← w.value_in.ensures.value, ← l) w.put_row-p.ensures.out_after in
+          writing_step a.out.now a.at (f rows) c.loop-row.out c.loop-row.p (f (drop i rows)) c.loop-row.invariant
+          (r.key ++ (le_bytes 4 r.length ++ value_of v r)) (f (drop (i + 1) rows)) c.if-row.out c.if-row.p
+          (reinstate-present rows i d c.loop-row-test.true v w.if-row.true) o q
+      | else-row w ↦
+          rw (w.out-is, w.p-is, ← reinstate-absent rows i d c.loop-row-test.true v w.if-row.false) c.loop-row.invariant
+    ]
 
 pub returns : goal.returns
 returns c =
-    let listed : c.args.t.count ≤ length c.args.t.rows = rows-within c.requires.count_bound c.loop-i.invariant.1 in
-    let a = c.args in let both = writing-end a.out.now a.at (concat (reinstate_bytes a.values.now) (rows_of a.t)) c.loop-i.out c.loop-i.p
-    (concat (reinstate_bytes a.values.now) (drop c.loop-i.i (rows_of a.t))) c.loop-i.invariant.3
-    (concat-end a.t.rows a.t.count c.loop-i.i listed (reinstate_bytes a.values.now) c.loop-i-test.false) in
+    let a = c.args in
+    let f = reinstate_bytes a.values.now in
+    let both = writing-end a.out.now a.at (concat f a.rows.now) c.loop-row.out c.loop-row.p _ c.loop-row.invariant
+    (concat-end a.rows.now c.loop-row.row-index f c.loop-row-test.false) in
     record { value = both.0; out_after = both.1 }
