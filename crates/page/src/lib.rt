@@ -10,5 +10,5 @@ pub const PAGE_SIZE: u64 = 4096;
 pub fn padded_end(end: u32) -> u64
     ensures { result ≡ padded_end 4096 end }
 {
-    (end as u64 + (PAGE_SIZE - 1)) / PAGE_SIZE * PAGE_SIZE
+    (u64::from(end) + (PAGE_SIZE - 1)) / PAGE_SIZE * PAGE_SIZE
 }

@@ -7,4 +7,4 @@ use Rattle.page.proofs.padded_end.Goals as goal
 
 pub returns : goal.returns
 returns c =
-    sym (pad-rounded 4096 c.args.end (lit< tt))
+    rw c.from.ensures (sym (pad-rounded 4096 c.args.end (lit< tt)))
