@@ -58,23 +58,21 @@ fn leading(segs: &[Segment], n: u64) -> usize
 }
 
 // The first `left` entries, with zeros behind them.
-fn cleared(segs: [Segment; 64], left: usize) -> [Segment; 64]
+fn cleared(mut segs: [Segment; 64], left: usize) -> [Segment; 64]
     requires { left ≤ 64 }
     ensures { result ≡ (take left segs ++ replicate (64 - left) no_segment) }
 {
-    let mut out = segs;
-    out[left..].fill(segment::no_segment());
-    out
+    segs[left..].fill(segment::no_segment());
+    segs
 }
 
 // The entries from `first` on, moved to the front, with zeros behind them.
-fn shifted(segs: [Segment; 64], first: usize) -> [Segment; 64]
+fn shifted(mut segs: [Segment; 64], first: usize) -> [Segment; 64]
     requires { first ≤ 64 }
     ensures { result ≡ (drop first segs ++ replicate first no_segment) }
 {
-    let mut out = segs;
-    out.copy_within(first.., 0);
-    cleared(out, 64 - first)
+    segs.copy_within(first.., 0);
+    cleared(segs, 64 - first)
 }
 
 // How many trailing segments have a min above n.
