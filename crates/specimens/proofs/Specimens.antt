@@ -5,7 +5,7 @@ use lib.Dec.{lit<}
 use Rattle.lists.specs.Splice.{splice}
 use Rattle.page.proofs.Page.{pad-rounded}
 use Rattle.record.specs.Record.{record_room}
-use Rattle.little_endian.specs.LittleEndian.{le_at, le_bytes, number_at, u32_at}
+use Rattle.little_endian.specs.LittleEndian.{le_at, le_bytes, number_at}
 use Rattle.segment_filename.specs.Words.{same, starts_with, ends_with}
 use Rattle.segment_filename.specs.Digits.{digits, all_digits, value_from}
 use Rattle.segment_filename.specs.Formatting.{name_of, format_of}
@@ -25,7 +25,7 @@ room n = pad-rounded 4096 (12 + n) (lit< tt)
 
 -- the table
 pub specimens : Specimens
-unfolding name_of format_of parse_of same starts_with ends_with digits all_digits value_from le_at le_bytes number_at u32_at compare_keys
+unfolding name_of format_of parse_of same starts_with ends_with digits all_digits value_from le_at le_bytes number_at compare_keys
     any insert sort clash erase_at reinstate_at group reinstates reading walk concat sum delta_bytes encoded_of splice
 specimens =
     record {
