@@ -1,78 +1,25 @@
-// The range among the arguments: two numbers, or none.
+// The arguments: a folder, a prefix, and the range that is asked for: two numbers, or none.
 // A number is decimal digits and nothing else, and 64 bits hold it.
-ghost use Rattle.std.specs.Prelude.{◌≤◌, length};
-
 use std::env::{Env, FillError};
+use walk::Range;
 
-// Whether the arguments are as they must be; whether there is a range, and which.
+// What the program is asked for: the folder's path, the prefix of the log's names, and the range, if there is one.
 #[derive(Clone, Copy)]
-pub(crate) struct Range {
-    pub(crate) good: bool,
-    pub(crate) given: bool,
-    pub(crate) start: u64,
-    pub(crate) end: u64,
+pub(crate) struct Asked<'a> {
+    pub(crate) path: &'a [u8],
+    pub(crate) prefix: &'a [u8],
+    pub(crate) range: Option<Range>,
 }
 
-// A number, and whether digits spelled it.
-#[derive(Clone, Copy)]
-struct Number {
-    good: bool,
-    value: u64,
-}
+// The arguments are not as the usage says.
+#[derive(Clone, Copy, Debug)]
+pub(crate) struct Misused;
 
-fn no_number() -> Number {
-    Number {
-        good: false,
-        value: 0,
-    }
-}
-
-// One digit more; no number where the byte is no digit, or 64 bits don't hold it.
-fn with_digit(number: Number, byte: u8) -> Number {
-    if byte < b'0' {
-        return no_number();
-    }
-    if b'9' < byte {
-        return no_number();
-    }
-    let digit = (byte - b'0') as u64;
-    if 1844674407370955161 < number.value {
-        return no_number();
-    }
-    let tens = number.value * 10;
-    if 18446744073709551615 - tens < digit {
-        return no_number();
-    }
-    Number {
-        good: number.good,
-        value: tens + digit,
-    }
-}
-
-// The number that decimal digits spell, and nothing else.
-fn decimal(digits: &[u8]) -> Number {
-    if digits.len() == 0 {
-        return no_number();
-    }
-    let mut number = Number {
-        good: true,
-        value: 0,
-    };
-    let mut i: usize = 0;
-    while i < digits.len() {
-        number = with_digit(number, digits[i]);
-        i += 1;
-    }
-    number
-}
-
-// Argument i over the front of out; its length, 0 where there is none or it is longer.
-pub(crate) fn argument(env: &impl Env, i: usize, out: &mut [u8]) -> usize
-    ensures { result ≤ length out.new }
-{
-    match env.arg(i, out) {
-        Ok(n) => n,
-        Err(_) => 0,
+// Argument i over the front of the room. An empty one counts as none, and so does one that is longer than the room.
+fn argument<'a>(env: &impl Env, i: usize, room: &'a mut [u8]) -> Result<&'a [u8], Misused> {
+    match env.arg(i, &mut *room) {
+        Ok(n) if 0 < n => Ok(&room[..n]),
+        _ => Err(Misused),
     }
 }
 
@@ -87,30 +34,41 @@ fn argument_count(env: &impl Env) -> usize {
     usize::MAX
 }
 
-// Argument i as a number.
-fn numbered(env: &impl Env, i: usize) -> Number {
-    let mut digits = [0u8; 32];
-    let n = argument(env, i, &mut digits);
-    decimal(&digits[..n])
+// The number that decimal digits spell, and nothing else: no sign.
+fn decimal(digits: &[u8]) -> Option<u64> {
+    if !digits.iter().all(|byte| byte.is_ascii_digit()) {
+        return None;
+    }
+    str::from_utf8(digits).ok()?.parse::<u64>().ok()
 }
 
-// Arguments 3 and 4, which are given both or not at all, and are the last.
-pub(crate) fn asked(env: &impl Env) -> Range {
-    let count = argument_count(env);
-    if count == 3 {
-        return Range {
-            good: true,
-            given: false,
-            start: 0,
-            end: 0,
-        };
+// Argument i as a number.
+fn number(env: &impl Env, i: usize) -> Result<u64, Misused> {
+    let mut room = [0u8; 32];
+    decimal(argument(env, i, &mut room)?).ok_or(Misused)
+}
+
+// The range of arguments 3 and 4, which are given both or not at all, and are the last.
+fn asked_range(env: &impl Env) -> Result<Option<Range>, Misused> {
+    match argument_count(env) {
+        3 => Ok(None),
+        5 => Ok(Some(Range {
+            s: number(env, 3)?,
+            e: number(env, 4)?,
+        })),
+        _ => Err(Misused),
     }
-    let start = numbered(env, 3);
-    let end = numbered(env, 4);
-    Range {
-        good: (count == 5) & start.good & end.good,
-        given: true,
-        start: start.value,
-        end: end.value,
-    }
+}
+
+// The arguments, the first two of them over the room lent.
+pub(crate) fn all<'a>(
+    env: &impl Env,
+    path: &'a mut [u8],
+    prefix: &'a mut [u8],
+) -> Result<Asked<'a>, Misused> {
+    Ok(Asked {
+        path: argument(env, 1, path)?,
+        prefix: argument(env, 2, prefix)?,
+        range: asked_range(env)?,
+    })
 }

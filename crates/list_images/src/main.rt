@@ -12,155 +12,126 @@ mod images;
 mod judge;
 mod lines;
 
-use arguments::Range;
 use image_rows::Rows;
 use images::Walked;
+use lines::Folder;
+use refusal::Refusal;
+use seglog::Shape;
 use std::env::Env;
 use std::fs::Files;
 use std::io;
+use walk::Range;
 
 // The images' bytes in memory; the index has four words for each page of them.
 const AREA: usize = 524288;
 
-pub(crate) fn say(rt: &impl Print, bytes: &[u8]) -> io::Result<()> {
-    rt.write_all(bytes)
-}
-
-// Writes a word, a space and a number.
-pub(crate) fn named(rt: &impl Print, word: &[u8], v: u64) -> io::Result<()> {
-    say(rt, word)?;
-    say(rt, b" ")?;
-    rt.print(v)
-}
-
-// Recovers s..e from the images in the area, and lists what they hold; `stopped` where something stands behind e.
+// Recovers the range from the images in the area, and lists what they hold; `stopped` where something stands behind its end.
 fn list(
     rt: &impl Print,
     area: &mut [u8],
     c: u64,
     rows: Rows,
-    s: u64,
-    e: u64,
+    range: Range,
     stopped: bool,
 ) -> io::Result<()> {
     let mut index = [0u64; 512];
+    let Range { s, e } = range;
     let k = rows.count as u64;
-    let recovered = recovery::recover(k, c, c, area, rows, s, e, &mut index);
-    if recovered.refusal != 0 {
-        named(rt, b"refused", recovered.refusal as u64)?;
-        named(rt, b" recovering", s)?;
-        named(rt, b" to", e)?;
-        return say(rt, b"\n");
-    }
+    let shape = Shape { k, c, m: c };
+    let recovered = match recovery::recover(shape, area, rows, range, &mut index) {
+        Ok(recovered) => recovered,
+        Err(refusal) => return println!(rt; "refused {} recovering {s} to {e}", refusal.number()),
+    };
     let mut lines = [0u8; 65536];
     let kept = listing::kept(recovered.log, &mut lines, 0);
     let legend = text::put(&mut lines, kept, b"record slot offset length\n");
     let end = listing::rows(&index, recovered.rows, &mut lines, legend);
-    say(rt, slices::front(&lines, end))?;
-    named(rt, b"ok", recovered.rows)?;
-    named(rt, b" records in", k)?;
-    say(rt, b" images")?;
+    rt.write_all(slices::front(&lines, end))?;
+    print!(rt; "ok {} records in {k} images", recovered.rows)?;
     if stopped {
-        named(rt, b"; nothing behind record", e)?;
-        say(rt, b" was looked at")?;
+        print!(rt; "; nothing behind record {e} was looked at")?;
     }
-    say(rt, b"\n")
+    println!(rt)
 }
 
 // The last line where an image has a fault. Who gave no range is told the one that ends before it.
-fn say_refused(rt: &impl Print, whole: Walked, range: Range) -> io::Result<()> {
-    named(rt, b"refused", whole.refusal as u64)?;
-    say(rt, b" in the image said above")?;
-    if !range.given & (whole.records != 0) {
-        named(
-            rt,
-            b"; what stands before it is listed with the range",
-            whole.first,
-        )?;
-        named(rt, b"", whole.last)?;
+fn say_refused(
+    rt: &impl Print,
+    refusal: Refusal,
+    whole: Walked,
+    range: Option<Range>,
+) -> io::Result<()> {
+    print!(rt; "refused {} in the image said above", refusal.number())?;
+    if let (None, Some(records)) = (range, whole.records) {
+        let first = records.first;
+        let last = records.last;
+        print!(rt; "; what stands before it is listed with the range {first} {last}")?;
     }
-    say(rt, b"\n")
+    println!(rt)
 }
 
 // Reads the images into the slots of the area's part that they need, walks each, and lists what they hold.
 fn list_judged(
     rt: &(impl Files + Print),
-    folder: &[u8],
-    names: &[u8],
+    folder: Folder<'_>,
     rows: Rows,
-    range: Range,
+    range: Option<Range>,
     area: &mut [u8],
 ) -> io::Result<()> {
     let c = images::largest_slot(rows);
-    let room = slices::room(rows.count as u64, c);
-    if area.len() < room {
-        return say(
-            rt,
-            b"refused: the images need more memory than this program has\n",
-        );
+    let Some(used) = area.get_mut(..slices::room(rows.count as u64, c)) else {
+        return println!(rt; "refused: the images need more memory than this program has");
+    };
+    if !files::load(rt, folder, rows, &mut *used, c as usize)? {
+        return println!(rt; "refused: a file was changed while it was read, as said above");
     }
-    let used = &mut area[..room];
-    let changed = files::load(rt, folder, names, rows, &mut *used, c as usize)?;
-    if changed != 0 {
-        return say(
-            rt,
-            b"refused: a file was changed while it was read, as said above\n",
-        );
+    let whole = images::walk(rt, folder, rows, range, used, c)?;
+    if let Some(refusal) = whole.refusal {
+        return say_refused(rt, refusal, whole, range);
     }
-    let whole = images::walk(rt, names, rows, range, used, c)?;
-    if whole.refusal != 0 {
-        return say_refused(rt, whole, range);
-    }
-    if range.given {
-        return list(rt, used, c, rows, range.start, range.end, whole.stopped);
-    }
-    list(rt, used, c, rows, whole.first, whole.last, whole.stopped)
+    list(
+        rt,
+        used,
+        c,
+        rows,
+        range.unwrap_or(whole.range()),
+        whole.stopped,
+    )
 }
 
 // Says what does not belong, or lists the images.
 fn judge_and_list(
     rt: &(impl Files + Print),
-    folder: &[u8],
-    prefix: &[u8],
-    names: &[u8],
-    range: Range,
+    folder: Folder<'_>,
+    range: Option<Range>,
     area: &mut [u8],
 ) -> io::Result<()> {
-    let judged = judge::all(rt, folder, prefix, names, area.len())?;
-    if judged.faults != 0 {
-        return say(
-            rt,
-            b"refused: not all that is there belongs to the log, as said above\n",
-        );
+    match judge::all(rt, folder, area.len())? {
+        None => println!(rt; "refused: not all that is there belongs to the log, as said above"),
+        Some(rows) if rows.count == 0 => {
+            println!(rt; "refused: the folder has no file of this prefix")
+        }
+        Some(rows) => list_judged(rt, folder, rows, range, area),
     }
-    if judged.rows.count == 0 {
-        return say(rt, b"refused: the folder has no file of this prefix\n");
-    }
-    list_judged(rt, folder, names, judged.rows, range, area)
 }
 
 fn work(rt: &(impl Env + Files + Input + Print), area: &mut [u8]) -> io::Result<()> {
-    let mut folder = [0u8; 4096];
-    let folder_length = arguments::argument(rt, 1, &mut folder);
+    let mut path = [0u8; 4096];
     let mut prefix = [0u8; 4096];
-    let prefix_length = arguments::argument(rt, 2, &mut prefix);
-    let range = arguments::asked(rt);
-    if (folder_length == 0) | (prefix_length == 0) | !range.good {
-        return say(rt, b"usage: list_images FOLDER PREFIX [S E] <NAMES\n");
-    }
+    let Ok(asked) = arguments::all(rt, &mut path, &mut prefix) else {
+        return println!(rt; "usage: list_images FOLDER PREFIX [S E] <NAMES");
+    };
     let mut names = [0u8; 65536];
-    let length = files::read_full(&mut rt.reader(), &mut names);
+    let length = folders::read_full(&mut rt.reader(), &mut names);
     if length == 65536 {
-        return say(rt, b"refused: more than 65535 bytes of names\n");
+        return println!(rt; "refused: more than 65535 bytes of names");
     }
-    judge_and_list(
-        rt,
-        &folder[..folder_length],
-        &prefix[..prefix_length],
-        &names[..length],
-        range,
-        area,
-    )
+    let folder = Folder {
+        path: asked.path,
+        prefix: asked.prefix,
+        lines: &names[..length],
+    };
+    judge_and_list(rt, folder, asked.range, area)
 }
 
 fn main(rt: HostRuntime) -> io::Result<()> {
