@@ -9,7 +9,7 @@ use Rattle.lists.specs.Choice.{pick}
 use Rattle.lists.specs.Outcome.{Outcome, refused, done}
 use Rattle.lists.proofs.Bools.{clash, and_both, both-and}
 use Rattle.lists.proofs.Cases.{by-test, pick-either}
-use Rattle.lists.proofs.Outcome.{refused-is-not-done, done-injective}
+use Rattle.lists.proofs.Outcome.{refused-is-not-done, refused-injective, done-injective}
 use Rattle.lists.specs.Distinct.{fresh, distinct}
 use Rattle.lists.proofs.Distinct.{pigeons}
 use Rattle.record.specs.Record.{max_payload, record_room}
@@ -23,7 +23,7 @@ use Rattle.seglog.proofs.View.{log-view, entries_of, set-head, set_new, ends-wit
 use Rattle.seglog.proofs.Fit.{SegmentGood, Fitting, fitting-is, chain-below}
 use Rattle.seglog.proofs.Chain.{snoc-chain, zeros-at}
 use Rattle.seglog_append.specs.declared.Place.{Place}
-use Rattle.seglog_append.specs.Deciding.{lowest_free, free_slot, opens_of, next_id, fresh_of, target_of, before_of, place_of, decide_of, decide_log}
+use Rattle.seglog_append.specs.Deciding.{lowest_free, opened_of, opens_of, next_id, fresh_of, target_of, before_of, place_of, decide_of, decide_log}
 use Rattle.seglog_append.specs.Promised.{AppendRefuses5, AppendRefuses7}
 use Rattle.seglog_append.proofs.DecidingFree.{free-most, free-good}
 
@@ -170,24 +170,54 @@ module _ (l : Log) (bytes n : ℕ) (k : Past l bytes n) where
         ∙ sym (passed l bytes n k.fits k.small k.more
         ∙ simp (chosen.id-good, chosen.slot-free, le-ltb (l.c - (target_of (view_of l)).size) (record_room n) (omega (arith, same_size))))
 
--- ---- the slot of a new segment
+-- ---- a new segment
 
-module _ (a : View) (r : Option ℕ) (e : Refusal) (h : r ≡ free_slot a) where
-  -- one is found: it is the lowest, and one of the K
-  pub slot-found : (s : ℕ) → ok_or r e ≡ Ok s → (s ≡ lowest_free a) × (s ≡ a.k → ⊥)
-  slot-found s q = go (eqb (lowest_free a) a.k) refl (sym (ap (λ (x : Option ℕ). ok_or x e) h) ∙ q)
+-- a number that is none where it is y
+module _ (x y : ℕ) (r : Option ℕ) (e : Refusal) (h : r ≡ pick (eqb x y) None (Some x)) where
+  -- it is there
+  pub number-found : (s : ℕ) → ok_or r e ≡ Ok s → (s ≡ x) × (x ≡ y → ⊥)
+  number-found s q = go (eqb x y) refl (sym (ap (λ (o : Option ℕ). ok_or o e) h) ∙ q)
     where
-      go : (t : Bool) → eqb (lowest_free a) a.k ≡ t → ok_or (pick t None (Some (lowest_free a))) e ≡ Ok s → (s ≡ lowest_free a) × (s ≡ a.k → ⊥)
+      go : (t : Bool) → eqb x y ≡ t → ok_or (pick t None (Some x)) e ≡ Ok s → (s ≡ x) × (x ≡ y → ⊥)
       go true g q = cc
-      go false g q = let is : s ≡ lowest_free a = cc in (is, λ z. eqb-false (lowest_free a) a.k g (sym is ∙ z))
+      go false g q = let is : s ≡ x = cc in (is, eqb-false x y g)
 
-  -- none is left
-  pub slot-refused : (d : Refusal) → ok_or r e ≡ Err d → (d ≡ e) × (lowest_free a ≡ a.k)
-  slot-refused d q = go (eqb (lowest_free a) a.k) refl (sym (ap (λ (x : Option ℕ). ok_or x e) h) ∙ q)
+  -- it is not
+  pub number-refused : (d : Refusal) → ok_or r e ≡ Err d → (d ≡ e) × (x ≡ y)
+  number-refused d q = go (eqb x y) refl (sym (ap (λ (o : Option ℕ). ok_or o e) h) ∙ q)
     where
-      go : (t : Bool) → eqb (lowest_free a) a.k ≡ t → ok_or (pick t None (Some (lowest_free a))) e ≡ Err d → (d ≡ e) × (lowest_free a ≡ a.k)
-      go true g q = let is : d ≡ e = cc in (is, eqb-true (lowest_free a) a.k g)
+      go : (t : Bool) → eqb x y ≡ t → ok_or (pick t None (Some x)) e ≡ Err d → (d ≡ e) × (x ≡ y)
+      go true g q = let is : d ≡ e = cc in (is, eqb-true x y g)
       go false g q = cc
+
+module _ (a : View) (last : ℕ) where
+  -- a new segment with these numbers
+  abbrev pub opened : ℕ → ℕ → Segment
+  opened id slot = record { id = id; slot = slot; size = 0; min = a.end + 1; max = a.end + 1; newest_at = 0 }
+
+  pub opened-5 : (last + 1) % 2 ^ 32 ≡ 0 → opened_of a last ≡ refused 5
+  unfolding opened_of
+  opened-5 h = simp (eq-eqb ((last + 1) % 2 ^ 32) 0 h)
+
+  pub opened-6 : ((last + 1) % 2 ^ 32 ≡ 0 → ⊥) → lowest_free a ≡ a.k → opened_of a last ≡ refused 6
+  unfolding opened_of
+  opened-6 h q = simp (ne_eqb ((last + 1) % 2 ^ 32) 0 h, eq-eqb (lowest_free a) a.k q)
+
+  pub opened-done : ((last + 1) % 2 ^ 32 ≡ 0 → ⊥) → (lowest_free a ≡ a.k → ⊥)
+      → opened_of a last ≡ done (opened ((last + 1) % 2 ^ 32) (lowest_free a))
+  unfolding opened_of
+  opened-done h q = simp (ne_eqb ((last + 1) % 2 ^ 32) 0 h, ne_eqb (lowest_free a) a.k q)
+
+  -- what holds of 5 and 6, and of a segment, holds of the outcome
+  pub opened-outcomes : (Q : Outcome Segment → Type 0) → ((last + 1) % 2 ^ 32 ≡ 0 → Q (refused 5))
+      → (((last + 1) % 2 ^ 32 ≡ 0 → ⊥) → lowest_free a ≡ a.k → Q (refused 6))
+      → (((last + 1) % 2 ^ 32 ≡ 0 → ⊥) → (lowest_free a ≡ a.k → ⊥) → Q (done (opened ((last + 1) % 2 ^ 32) (lowest_free a))))
+      → Q (opened_of a last)
+  unfolding opened_of
+  opened-outcomes Q five six good =
+      pick-either Q (eqb ((last + 1) % 2 ^ 32) 0) (refused 5) _ (λ q. five (eqb-true ((last + 1) % 2 ^ 32) 0 q))
+      (λ h5. pick-either Q (eqb (lowest_free a) a.k) (refused 6) _ (λ q. six (eqb-false ((last + 1) % 2 ^ 32) 0 h5) (eqb-true (lowest_free a) a.k q))
+      (λ h6. good (eqb-false ((last + 1) % 2 ^ 32) 0 h5) (eqb-false (lowest_free a) a.k h6)))
 
 -- ---- a log that fits
 
@@ -234,6 +264,19 @@ module _ (l : Log) (bytes : ℕ) (long : length l.segs ≡ 64) (fits : fitting_o
   front_length : length (front_of listing) ≡ l.count - 1
   front_length = length-take (length listing - 1) listing ∙ omega (arith, listed)
 
+  -- a new segment is chosen
+  chosen-new : (g : Segment) (i next slot : ℕ) → opens_of v ≡ true → next ≡ next_id listing → (next ≡ 0 → ⊥) → slot ≡ lowest_free v
+      → (slot ≡ l.k → ⊥) → i ≡ l.count
+      → g ≡ record { id = next; slot = slot; size = 0; min = l.end + 1; max = l.end + 1; newest_at = 0 } → Chosen l g i
+  chosen-new g i next slot o n nz f nf p e =
+      record {
+        target = e ∙ (λ j. record { id = n j; slot = f j; size = 0; min = l.end + 1; max = l.end + 1; newest_at = 0 }) ∙ simp o;
+        index = simp o (p ∙ sym listed);
+        id-good = simp (o, ne_eqb (next_id listing) 0 (λ z. nz (n ∙ z)));
+        slot-free = simp (o, ne_eqb (lowest_free v) l.k (λ z. nf (f ∙ z)));
+        size = omega (arith, ap (λ (x : Segment). x.size) e);
+      }
+
   -- ---- in the code's terms: `last` is the place of the head's entry
 
   module _ (last : ℕ) (at_last : last ≡ l.count - 1) where
@@ -249,6 +292,23 @@ module _ (l : Log) (bytes : ℕ) (long : length l.segs ≡ 64) (fits : fitting_o
     pub next-by : (x : ℕ) → x ≡ ((get_or l.segs last no_segment).id + 1) % 2 ^ 32 → x ≡ next_id listing
     next-by x e = e ∙ ap (λ (g : Segment). (g.id + 1) % 2 ^ 32) here ∙ after-head listing
 
+    -- a new segment is refused by 5 or 6, as the definition says
+    pub opened-refuses : (n d : ℕ) → opens_of v ≡ true → Past l bytes n
+        → opened_of v (get_or l.segs last no_segment).id ≡ refused d → decide_log l bytes n ≡ refused d
+    opened-refuses n d o k =
+        opened-outcomes v (get_or l.segs last no_segment).id (λ (x : Outcome Segment). x ≡ refused d → decide_log l bytes n ≡ refused d)
+        (λ h e. append-refuses-5 l bytes n k.fits k.small k.more o (sym (next-by _ refl) ∙ h) ∙ ap refused (refused-injective e))
+        (λ h q e. append-refuses-6 l bytes n k o (λ z. h (next-by _ refl ∙ z)) q ∙ ap refused (refused-injective e))
+        (λ h q e. refused-is-not-done (sym e))
+
+    -- or chosen
+    pub opened-chosen : (g : Segment) (i : ℕ) → opens_of v ≡ true → i ≡ l.count
+        → opened_of v (get_or l.segs last no_segment).id ≡ done g → Chosen l g i
+    opened-chosen g i o p =
+        opened-outcomes v (get_or l.segs last no_segment).id (λ (x : Outcome Segment). x ≡ done g → Chosen l g i)
+        (λ h e. refused-is-not-done e) (λ h q e. refused-is-not-done e)
+        (λ h q e. chosen-new g i _ (lowest_free v) o (next-by _ refl) h refl q p (sym (done-injective e)))
+
     -- the head is chosen
     pub chosen-head : (g : Segment) (i : ℕ) → opens_of v ≡ false → i ≡ last → g ≡ get_or l.segs last no_segment → Chosen l g i
     chosen-head g i o p e =
@@ -260,19 +320,6 @@ module _ (l : Log) (bytes : ℕ) (long : length l.segs ≡ 64) (fits : fitting_o
           slot-free = simp o;
           size = omega (arith, (head-good o).size, ap (λ (x : Segment). x.size) is);
         }
-
-  -- a new segment is chosen
-  pub chosen-new : (g : Segment) (i next slot : ℕ) → opens_of v ≡ true → next ≡ next_id listing → (next ≡ 0 → ⊥) → slot ≡ lowest_free v
-      → (slot ≡ l.k → ⊥) → i ≡ l.count
-      → g ≡ record { id = next; slot = slot; size = 0; min = l.end + 1; max = l.end + 1; newest_at = 0 } → Chosen l g i
-  chosen-new g i next slot o n nz f nf p e =
-      record {
-        target = e ∙ (λ j. record { id = n j; slot = f j; size = 0; min = l.end + 1; max = l.end + 1; newest_at = 0 }) ∙ simp o;
-        index = simp o (p ∙ sym listed);
-        id-good = simp (o, ne_eqb (next_id listing) 0 (λ z. nz (n ∙ z)));
-        slot-free = simp (o, ne_eqb (lowest_free v) l.k (λ z. nf (f ∙ z)));
-        size = omega (arith, ap (λ (x : Segment). x.size) e);
-      }
 
 -- ---- the target of an accepted record
 

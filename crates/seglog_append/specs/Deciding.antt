@@ -37,6 +37,15 @@ next_id gs = pick (length gs == 0) 1 (((head_of gs).id + 1) % 2 ^ 32)
 abbrev pub fresh_of : View → Segment
 fresh_of a = record { id = next_id a.segs; slot = lowest_free a; size = 0; min = a.end + 1; max = a.end + 1; newest_at = 0 }
 
+-- a new segment behind the id `last`, 0 where there is none: 5, 6, or the segment before its first record
+unfoldable pub opened_of : View → ℕ → Outcome Segment
+opened_of a last =
+    first
+    ((nat_eq ((last + 1) % 2 ^ 32) 0 ⇒ refused 5)
+    ∷ (nat_eq (lowest_free a) a.k ⇒ refused 6)
+    ∷ [])
+    (done (record { id = (last + 1) % 2 ^ 32; slot = lowest_free a; size = 0; min = a.end + 1; max = a.end + 1; newest_at = 0 }))
+
 -- the segment that the record goes to
 abbrev pub target_of : View → Segment
 target_of a = pick (opens_of a) (fresh_of a) (head_of a.segs)

@@ -2,13 +2,13 @@
 // is decided with no byte of the area or the payload, and putting it there, through the segment's writer.
 #![tactic(auto)]
 
-ghost use Rattle.std.specs.Prelude.{◌≡◌, ◌+◌, ◌*◌, ◌%◌, ◌^◌, true, length, ◌==◌, nat_le};
+ghost use Rattle.std.specs.Prelude.{◌≡◌, ◌+◌, ◌*◌, ◌%◌, ◌^◌, ◌≢◌, true, length, ◌==◌, nat_le, Some, None};
 ghost use Rattle.lists.specs.Choice.{pick};
 ghost use Rattle.lists.specs.Outcome.{done};
 ghost use Rattle.refusal.specs.Refusals.{outcome};
 ghost use Rattle.seglog.specs.View.{view_of};
 ghost use Rattle.seglog.specs.Fit.{fitting_of};
-ghost use Rattle.seglog_append.specs.Deciding.{free_slot, decide_log};
+ghost use Rattle.seglog_append.specs.Deciding.{free_slot, opened_of, decide_log};
 ghost use Rattle.seglog_append.specs.Appending.{GrownPre, grown_answer, taken, appended, advanced_of, append_log, append_answer, append_area};
 
 use record::{HEADER_SIZE, MAX_RECORD_PAYLOAD_SIZE};
@@ -32,11 +32,11 @@ pub struct Place {
     pub room: u64,
 }
 
-// The last segment id plus one, wrapping at 32 bits; 0 is the last id where there is no segment.
-fn gen_segment_id(last: u32) -> u32
-    ensures { result ≡ (last + 1) % 2 ^ 32 }
+// The last segment id plus one, unless the last one is the greatest; 0 is the last id where there is no segment.
+fn gen_segment_id(last: u32) -> Option<u32>
+    ensures { result ≡ pick ((last + 1) % 2 ^ 32 == 0) None (Some ((last + 1) % 2 ^ 32)) }
 {
-    last.wrapping_add(1)
+    last.checked_add(1)
 }
 
 // Whether a new segment is wanted: there is none, or the head's size is the soft size or more.
@@ -59,18 +59,22 @@ fn lowest_free(log: Log) -> Option<u32>
     (0..log.k as u32).find(|slot| !used[*slot as usize])
 }
 
-// A new segment, before its first record.
-fn new_segment(id: u32, slot: u32, first: u64) -> Segment
-    ensures { result ≡ record { id = id; slot = slot; size = 0; min = first; max = first; newest_at = 0 } }
+// A new segment, before its first record, or refusal 5 or 6; 0 is the last id where there is no segment.
+fn new_segment(log: Log, last: u32) -> Result<Segment, Refusal>
+    requires fits { fitting_of log (log.k * log.c) ≡ true }
+    requires more { log.end ≢ 18446744073709551615 }
+    ensures { outcome result ≡ opened_of (view_of log) last }
 {
-    Segment {
+    let id = gen_segment_id(last).ok_or(Refusal::LastSegmentId)?;
+    let slot = lowest_free(log).ok_or(Refusal::NoFreeSlot)?;
+    let first = log.end + 1;
+    Ok(Segment {
         id,
         slot,
-        size: 0,
         min: first,
         max: first,
-        newest_at: 0,
-    }
+        ..segment::no_segment()
+    })
 }
 
 // Refusals 2 to 7, or where the next record of the log goes: of n payload bytes, in an area of `bytes` bytes.
@@ -86,17 +90,13 @@ pub fn decide(log: Log, bytes: usize, n: usize) -> Result<Place, Refusal>
     if log.end == u64::MAX {
         return Err(Refusal::LastRecordId);
     }
-    let mut at = log.count.saturating_sub(1);
-    let mut target = log.segs[at];
-    if opens(log.count, log.m, target.size) {
-        let next = gen_segment_id(target.id);
-        if next == 0 {
-            return Err(Refusal::LastSegmentId);
-        }
-        let slot = lowest_free(log).ok_or(Refusal::NoFreeSlot)?;
-        at = log.count;
-        target = new_segment(next, slot, log.end + 1);
-    }
+    let last = log.count.saturating_sub(1);
+    let head = log.segs[last];
+    let (target, at) = if opens(log.count, log.m, head.size) {
+        (new_segment(log, head.id)?, log.count)
+    } else {
+        (head, last)
+    };
     let room = page::padded_end((HEADER_SIZE + n) as u32);
     if log.c - target.size < room {
         return Err(Refusal::NoRoom);
