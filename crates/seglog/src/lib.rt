@@ -78,7 +78,7 @@ fn segment_good(shape: Shape, g: Segment) -> bool
     ensures { result ≡ seg_of shape.k shape.c g }
 {
     1 <= g.id
-        && (g.slot as u64) < shape.k
+        && u64::from(g.slot) < shape.k
         && 1 <= g.size
         && g.size <= shape.c
         && 1 <= g.min

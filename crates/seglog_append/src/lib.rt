@@ -60,7 +60,7 @@ fn lowest_free(log: Log) -> Option<u32>
 }
 
 // A new segment, before its first record, or refusal 5 or 6; 0 is the last id where there is no segment.
-fn new_segment(log: Log, last: u32) -> Result<Segment, Refusal>
+fn open_segment(log: Log, last: u32) -> Result<Segment, Refusal>
     requires fits { fitting_of log (log.k * log.c) ≡ true }
     requires more { log.end ≢ 18446744073709551615 }
     ensures { outcome result ≡ opened_of (view_of log) last }
@@ -93,7 +93,7 @@ pub fn decide(log: Log, bytes: usize, n: usize) -> Result<Place, Refusal>
     let last = log.count.saturating_sub(1);
     let head = log.segs[last];
     let (target, at) = if opens(log.count, log.m, head.size) {
-        (new_segment(log, head.id)?, log.count)
+        (open_segment(log, head.id)?, log.count)
     } else {
         (head, last)
     };

@@ -11,7 +11,7 @@ use Rattle.seglog.proofs.Bounds.{last-below}
 use Rattle.seglog_append.proofs.Deciding.{Past, Chosen, few-listed, shaped, append-refuses-2, append-refuses-3, append-refuses-4}
 use Rattle.seglog_append.proofs.Deciding.{chosen-refuses-7, append_places, opens_by, opened-refuses, opened-chosen, chosen-head}
 use Rattle.seglog_append.proofs.decide.Goals as goal
-use Rattle.seglog_append.proofs.decide.Goals.{then-opens+in_ok-new_segment, else-opens}
+use Rattle.seglog_append.proofs.decide.Goals.{then-opens+in_ok-open_segment, else-opens}
 
 pub returns-then-not-fits : goal.returns-then-not-fits
 returns-then-not-fits c =
@@ -46,13 +46,13 @@ bounds-log-last c =
     c.saturating_sub-last.ensures in
     below
 
-pub new_segment-requires-clause-fits : goal.new_segment-requires-clause-fits
-new_segment-requires-clause-fits c =
+pub open_segment-requires-clause-fits : goal.open_segment-requires-clause-fits
+open_segment-requires-clause-fits c =
     let a = c.args in
     shaped a.log a.bytes (search (rules, unmapped)) (sym c.fits.ensures ∙ c.if-not-fits.false)
 
-pub returns-in_err-new_segment : goal.returns-in_err-new_segment
-returns-in_err-new_segment c =
+pub returns-in_err-open_segment : goal.returns-in_err-open_segment
+returns-in_err-open_segment c =
     let a = c.args in
     let past : Past a.log a.bytes a.n = record {
       long = search (rules, unmapped);
@@ -61,9 +61,9 @@ returns-in_err-new_segment c =
       more = λ z. omega (arith, c.if-log.false);
     } in
     let wanted = opens_by a.log a.bytes past.long past.fits _ c.saturating_sub-last.ensures _ c.opens.ensures in
-    ap outcome (handed-on c.from_residual.result c.in_err-new_segment.field-0.0 c.from_residual.ensures.1)
+    ap outcome (handed-on c.from_residual.result c.in_err-open_segment.field-0.0 c.from_residual.ensures.1)
     ∙ sym (opened-refuses a.log a.bytes past.long past.fits _ c.saturating_sub-last.ensures a.n _ (sym wanted ∙ c.if-opens.true) past
-    (sym c.new_segment.ensures ∙ ap outcome c.in_err-new_segment.was))
+    (sym c.open_segment.ensures ∙ ap outcome c.in_err-open_segment.was))
 
 pub overflow_sub-log : goal.overflow_sub-log
 overflow_sub-log c =
@@ -76,10 +76,10 @@ overflow_sub-log c =
     } in
     let wanted = opens_by a.log a.bytes past.long past.fits _ c.saturating_sub-last.ensures _ c.opens.ensures in
     let chosen : Chosen a.log c.if-opens.at.0 c.if-opens.at.1 = elim c.if-opens.branch [
-      | then-opens+in_ok-new_segment w ↦
+      | then-opens+in_ok-open_segment w ↦
           opened-chosen a.log a.bytes past.long past.fits _ c.saturating_sub-last.ensures c.if-opens.at.0 c.if-opens.at.1
           (sym wanted ∙ w.if-opens.true) (ap (λ p. p.1) w.at-is)
-          (sym w.new_segment.ensures ∙ ap outcome w.in_ok-new_segment.was ∙ ap (λ p. done p.0) (sym w.at-is))
+          (sym w.open_segment.ensures ∙ ap outcome w.in_ok-open_segment.was ∙ ap (λ p. done p.0) (sym w.at-is))
       | else-opens w ↦
           chosen-head a.log a.bytes past.long past.fits _ c.saturating_sub-last.ensures c.if-opens.at.0 c.if-opens.at.1
           (sym wanted ∙ w.if-opens.false) (ap (λ p. p.1) w.at-is) (ap (λ p. p.0) w.at-is)
@@ -98,10 +98,10 @@ returns-then-log-target c =
     } in
     let wanted = opens_by a.log a.bytes past.long past.fits _ c.saturating_sub-last.ensures _ c.opens.ensures in
     let chosen : Chosen a.log c.if-opens.at.0 c.if-opens.at.1 = elim c.if-opens.branch [
-      | then-opens+in_ok-new_segment w ↦
+      | then-opens+in_ok-open_segment w ↦
           opened-chosen a.log a.bytes past.long past.fits _ c.saturating_sub-last.ensures c.if-opens.at.0 c.if-opens.at.1
           (sym wanted ∙ w.if-opens.true) (ap (λ p. p.1) w.at-is)
-          (sym w.new_segment.ensures ∙ ap outcome w.in_ok-new_segment.was ∙ ap (λ p. done p.0) (sym w.at-is))
+          (sym w.open_segment.ensures ∙ ap outcome w.in_ok-open_segment.was ∙ ap (λ p. done p.0) (sym w.at-is))
       | else-opens w ↦
           chosen-head a.log a.bytes past.long past.fits _ c.saturating_sub-last.ensures c.if-opens.at.0 c.if-opens.at.1
           (sym wanted ∙ w.if-opens.false) (ap (λ p. p.1) w.at-is) (ap (λ p. p.0) w.at-is)
@@ -120,10 +120,10 @@ returns c =
     } in
     let wanted = opens_by a.log a.bytes past.long past.fits _ c.saturating_sub-last.ensures _ c.opens.ensures in
     let chosen : Chosen a.log c.if-opens.at.0 c.if-opens.at.1 = elim c.if-opens.branch [
-      | then-opens+in_ok-new_segment w ↦
+      | then-opens+in_ok-open_segment w ↦
           opened-chosen a.log a.bytes past.long past.fits _ c.saturating_sub-last.ensures c.if-opens.at.0 c.if-opens.at.1
           (sym wanted ∙ w.if-opens.true) (ap (λ p. p.1) w.at-is)
-          (sym w.new_segment.ensures ∙ ap outcome w.in_ok-new_segment.was ∙ ap (λ p. done p.0) (sym w.at-is))
+          (sym w.open_segment.ensures ∙ ap outcome w.in_ok-open_segment.was ∙ ap (λ p. done p.0) (sym w.at-is))
       | else-opens w ↦
           chosen-head a.log a.bytes past.long past.fits _ c.saturating_sub-last.ensures c.if-opens.at.0 c.if-opens.at.1
           (sym wanted ∙ w.if-opens.false) (ap (λ p. p.1) w.at-is) (ap (λ p. p.0) w.at-is)

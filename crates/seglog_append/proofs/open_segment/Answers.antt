@@ -1,4 +1,4 @@
--- `new_segment` meets its contract: the id and the slot are there, or 5 or 6 is handed on. Assumes nothing.
+-- `open_segment` meets its contract: the id and the slot are there, or 5 or 6 is handed on. Assumes nothing.
 use Rattle.std.proofs.Common.{◌+◌, ◌%◌, ◌^◌, sym, ap, ◌∙◌}
 use Rattle.lists.specs.Outcome.{refused, done}
 use Rattle.lists.proofs.Outcome.{handed-on}
@@ -7,7 +7,7 @@ use Rattle.refusal.specs.Refusals.{number, outcome}
 use Rattle.seglog.specs.View.{view_of}
 use Rattle.seglog_append.specs.Deciding.{lowest_free}
 use Rattle.seglog_append.proofs.Deciding.{number-found, number-refused, opened-5, opened-6, opened-done}
-use Rattle.seglog_append.proofs.new_segment.Goals as goal
+use Rattle.seglog_append.proofs.open_segment.Goals as goal
 
 pub returns-in_err-id : goal.returns-in_err-id
 returns-in_err-id c =
