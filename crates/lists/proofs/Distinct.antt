@@ -1,12 +1,11 @@
 -- The laws of `fresh` and `distinct`: taken apart at either end, place by place, of a front, in any order; no more elements than
--- numbers; and an array of marks, which tells the numbers that were seen. Assumes nothing.
+-- numbers. Assumes nothing.
 use mathlib.Core.Path.{◌≡◌, refl, sym, ap, subst, ◌∙◌}
-use mathlib.Core.Bool.{Bool, true, false, ◌&&◌, not, and-false}
+use mathlib.Core.Bool.{Bool, true, false, ◌&&◌, not}
 use mathlib.Core.List.{List, [], ◌∷◌, ◌++◌, append-nil, map}
 use Prim.Native.Nat.{ℕ, zero, suc, ◌≤◌, ◌<◌}
 use native.Mathlib.Omega.{arith}
-use lib.ListN.{length, get_or, take, drop, set, replicate, length-append, length-set, length-replicate}
-use lib.Seq.{get_or-set_same, get_or-set_other}
+use lib.ListN.{length, get_or, take, length-append}
 use lib.Dec.{eqb}
 use borrow.Author.Tests.{eq-eqb, ne_eqb, eqb-true, eqb-false}
 use Rattle.lists.specs.AnyOrder.{AnyOrder}
@@ -118,13 +117,6 @@ module _ {A : Type 0} (key : A → ℕ) where
       rw (any-all (λ y. not (eqb (key x) (key y))) l _ o.others, distinct-any l _ o.others)
       (sym (distinct-middle o.before x o.behind) ∙ ap (distinct key) (sym o.whole))
 
-  -- what fails from i on fails
-  pub distinct-rest : (i : ℕ) (xs : List A) → distinct key (drop i xs) ≡ false → distinct key xs ≡ false
-  unfolding distinct
-  distinct-rest zero xs h = h
-  distinct-rest (suc i) [] h = h
-  distinct-rest (suc i) (x ∷ xs) h = ap (λ (t : Bool). fresh key (key x) xs && t) (distinct-rest i xs h) ∙ and-false (fresh key (key x) xs)
-
   -- a front of them
   pub distinct-front : (i : ℕ) (xs : List A) → distinct key xs ≡ true → distinct key (take i xs) ≡ true
   unfolding distinct
@@ -203,40 +195,3 @@ module _ {A : Type 0} (key : A → ℕ) where
       let low = every-split _ w.before w.it w.behind (subst (Below (suc k)) w.whole b) in
       let n = pigeons k others own.1 (below-fresh k others (subst (λ (m : ℕ). fresh key m others ≡ true) w.has own.0) low.1) in
       omega (arith, ap length w.whole, length-append w.before (w.it ∷ w.behind), length-append w.before w.behind))
-
-  -- ---- marks of the numbers seen, which are below n
-
-  module _ (n : ℕ) where
-    -- 1 at each number that an element has, else 0
-    unfoldable pub marks : List A → List ℕ
-    marks [] = replicate n 0
-    marks (x ∷ xs) = set (marks xs) (key x) 1
-
-    -- there are n of them
-    pub marks-length : (xs : List A) → length (marks xs) ≡ n
-    unfolding marks
-    marks-length [] = length-replicate {A = ℕ} n 0
-    marks-length (x ∷ xs) = length-set (marks xs) (key x) 1 ∙ marks-length xs
-
-    -- no mark: no element has the number
-    pub marks-at : (xs : List A) (s : ℕ) → s < n → eqb (get_or (marks xs) s 0) 0 ≡ fresh key s xs
-    unfolding marks all
-    marks-at [] s h = eq-eqb _ 0 (none n s)
-      where
-        none : (m i : ℕ) → ◌≡◌ {A = ℕ} (get_or (replicate m 0) i 0) 0
-        none zero i = refl
-        none (suc m) zero = refl
-        none (suc m) (suc i) = none m i
-    marks-at (x ∷ xs) s h =
-        by-test (eqb s (key x))
-        (λ e.
-        let same : s ≡ key x = eqb-true s (key x) e in
-        simp e (rw (← same, get_or-set_same (marks xs) s 1 0 (omega (arith, marks-length xs))) refl))
-        (λ e. simp e (ap (λ (m : ℕ). eqb m 0) (get_or-set_other (marks xs) (key x) s 1 0 (eqb-false s (key x) e)) ∙ marks-at xs s h))
-
-    pub mark-none : (xs : List A) (s : ℕ) → s < n → get_or (marks xs) s 0 ≡ 0 → fresh key s xs ≡ true
-    mark-none xs s h e = sym (marks-at xs s h) ∙ eq-eqb _ 0 e
-
-    -- a mark: some element has it
-    pub mark-some : (xs : List A) (s : ℕ) → s < n → (get_or (marks xs) s 0 ≡ 0 → ⊥) → fresh key s xs ≡ false
-    mark-some xs s h e = sym (marks-at xs s h) ∙ ne_eqb _ 0 e

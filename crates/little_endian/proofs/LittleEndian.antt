@@ -4,27 +4,19 @@ use mathlib.Core.Path.{◌≡◌, refl, sym, ap, ◌∙◌}
 use mathlib.Core.Bool.{true, false}
 use mathlib.Core.List.{List, [], ◌∷◌, ◌++◌}
 use Prim.Native.Nat.{ℕ, zero, suc, ◌+◌, ◌/◌, ◌%◌, ◌^◌, ◌≤◌, ◌<◌}
-use native.Mathlib.Nat.{pow-suc}
-use native.Mathlib.Nat.{zero-lt-suc, div-lt_iff_lt-mul}
+use native.Mathlib.Nat.{pow-suc, zero-lt-suc, div-lt_iff_lt-mul}
 use native.Mathlib.Omega.{arith}
 use borrow.Author.Tests.{le-leb}
 use lib.ListN.{length, get_or, take, drop, length-append, length-take}
 use lib.Seq.{get_or-append_seam, append_snoc}
-use Rattle.lists.specs.Outcome.{refused, done}
-use Rattle.lists.proofs.Bools.{zero-is-not-one}
-use Rattle.lists.proofs.Outcome.{refused-is-not-done, refused-injective, done-injective}
-use Rattle.lists.proofs.Splice.{splice-fits, splice-before, splice-behind}
-use Rattle.lists.proofs.Cases.{by-test}
-use Rattle.refusal.specs.declared.Refusal.{Refusal}
-use Rattle.refusal.specs.declared.Refusal.TheVariants.{EndsEarly}
-use Rattle.refusal.specs.Refusals.{outcome}
-use Rattle.refusal.proofs.Refusals.{outcomes-differ}
-use Rattle.little_endian.specs.LittleEndian.{le_bytes, le_at, stand_at, bytes_at, number_at, u32_by, u32_at}
-use Rattle.std.specs.Prelude.{Result, Ok, Err}
 use Rattle.std.proofs.Common.{get_or-take, get_or-drop}
 use Rattle.std.specs.Int.{w32, w64, from_le_bytes, to_le_bytes}
 use Rattle.std.proofs.Math.Nat.{div-div-eq-div-mul}
-use Rattle.lists.specs.Splice.{part}
+use Rattle.lists.specs.Outcome.{refused, done}
+use Rattle.lists.proofs.Outcome.{refused-is-not-done, refused-injective, done-injective}
+use Rattle.lists.proofs.Splice.{splice-fits, splice-before, splice-behind}
+use Rattle.lists.proofs.Cases.{by-test}
+use Rattle.little_endian.specs.LittleEndian.{le_bytes, le_at, stand_at, bytes_at, number_at}
 use Rattle.little_endian.specs.Promised.{WriteRead, LeRead}
 
 -- a number of n bytes has n bytes
@@ -145,33 +137,3 @@ u32-bytes v = simp div-div-eq-div-mul
 pub u64-bytes : (v : ℕ) → to_le_bytes w64 v ≡ le_bytes 8 v
 unfolding le_bytes
 u64-bytes v = simp div-div-eq-div-mul
-
--- ---- the u32 at a place, by whether its bytes stand
-
-pub u32-short : (s : List ℕ) (at : ℕ) → stand_at 4 s at ≡ false → u32_at s at ≡ Err EndsEarly
-unfolding u32_at
-u32-short s at h = ap u32_by (number-refuses-40 4 s at h)
-
-pub u32-value : (s : List ℕ) (at : ℕ) → stand_at 4 s at ≡ true → u32_at s at ≡ Ok (le_at 4 s at)
-unfolding u32_at
-u32-value s at h = ap u32_by (number-reads 4 s at h)
-
--- it comes to what reading the four bytes comes to
-pub u32_at-outcome : (s : List ℕ) (at : ℕ) → outcome (u32_at s at) ≡ number_at 4 s at
-u32_at-outcome s at =
-    by-test (stand_at 4 s at) (λ h. ap outcome (u32-value s at h) ∙ sym (number-reads 4 s at h))
-    (λ h. ap outcome (u32-short s at h) ∙ sym (number-refuses-40 4 s at h))
-
--- what `read_u32` answers, by its contract, as the case that it is
-pub u32-answer : (a : Result ℕ Refusal) (s : List ℕ) (at : ℕ) → outcome a ≡ number_at 4 s at → a ≡ u32_at s at
-u32-answer a s at e = outcomes-differ ℕ a (u32_at s at) (e ∙ sym (u32_at-outcome s at))
-
--- a u32 that was read is what the four bytes spell
-pub u32-is : (s : List ℕ) (at v : ℕ) → u32_at s at ≡ Ok v → le_at 4 s at ≡ v
-u32-is s at v e =
-    by-test (stand_at 4 s at) (λ h. let q = sym (u32-value s at h) ∙ e in cc)
-    (λ h. let q = sym (u32-short s at h) ∙ e in zero-is-not-one (cc))
-
--- a u32 whose bytes stand is read
-pub u32-stands : (s : List ℕ) (at : ℕ) (r : Refusal) → at + 4 ≤ length s → u32_at s at ≡ Err r → ⊥
-u32-stands s at r h e = let q = sym (u32-value s at (le-leb (at + 4) (length s) h)) ∙ e in zero-is-not-one (cc)

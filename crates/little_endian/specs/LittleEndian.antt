@@ -1,11 +1,9 @@
 -- Little-endian numbers of any width: the bytes that spell a number, and the number that bytes spell.
 -- Laws: proofs/LittleEndian.antt. Assumes nothing.
-use Rattle.std.specs.Prelude.{Bool, not, List, [], ◌∷◌, ℕ, zero, suc, ◌+◌, ◌*◌, ◌/◌, ◌%◌, length, get_or, leb, Result, Ok, Err}
+use Rattle.std.specs.Prelude.{Bool, not, List, [], ◌∷◌, ℕ, zero, suc, ◌+◌, ◌*◌, ◌/◌, ◌%◌, length, get_or, leb}
 use Rattle.lists.specs.Choice.{◌⇒◌, first}
 use Rattle.lists.specs.Outcome.{Outcome, refused, done}
 use Rattle.lists.specs.Splice.{part}
-use Rattle.refusal.specs.declared.Refusal.{Refusal}
-use Rattle.refusal.specs.declared.Refusal.TheVariants.{EndsEarly}
 
 -- the n lowest bytes of v, the lowest first
 unfoldable pub le_bytes : ℕ → ℕ → List ℕ
@@ -28,12 +26,3 @@ bytes_at n s at = first ((not (stand_at n s at) ⇒ refused 40) ∷ []) (done (p
 -- what reading n bytes from `at` on comes to: the number that they spell; 40, "input ends early", where they don't all stand
 unfoldable pub number_at : ℕ → List ℕ → ℕ → Outcome ℕ
 number_at n s at = first ((not (stand_at n s at) ⇒ refused 40) ∷ []) (done (le_at n s at))
-
--- the answer that an outcome belongs to
-abbrev pub u32_by : Outcome ℕ → Result ℕ Refusal
-u32_by (done v) = Ok v
-u32_by (refused n) = Err EndsEarly
-
--- the u32 at a place as an answer of `read_u32`, for those who go on by its cases
-unfoldable pub u32_at : List ℕ → ℕ → Result ℕ Refusal
-u32_at s at = u32_by (number_at 4 s at)
