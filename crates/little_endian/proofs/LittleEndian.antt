@@ -13,6 +13,7 @@ use Rattle.std.proofs.Common.{get_or-take, get_or-drop}
 use Rattle.std.specs.Int.{w32, w64, from_le_bytes, to_le_bytes}
 use Rattle.std.proofs.Math.Nat.{div-div-eq-div-mul}
 use Rattle.lists.specs.Outcome.{refused, done}
+use Rattle.lists.specs.Splice.{part}
 use Rattle.lists.proofs.Outcome.{refused-is-not-done, refused-injective, done-injective}
 use Rattle.lists.proofs.Splice.{splice-fits, splice-before, splice-behind}
 use Rattle.lists.proofs.Cases.{by-test}
