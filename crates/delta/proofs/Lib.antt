@@ -1,4 +1,5 @@
 pub mod TablePlain
+pub mod TablePlacing
 pub mod TableArranged
 pub mod Entries
 pub mod Reading

@@ -18,7 +18,7 @@ use Rattle.seglog_prune.proofs.Cut.{found_at, newest-here, search-here, search-o
 use Rattle.lists.specs.Outcome.{done}
 use Rattle.seglog_prune.specs.Cut.{cut_at, find_cut}
 use Rattle.walk.specs.Judging.{max_image, placed_of}
-use Rattle.walk.specs.declared.RecordAnswer.TheVariants.{Record}
+use Rattle.std.specs.Prelude.{Ok}
 use Rattle.walk.specs.Records.{records_from, Plain}
 use Rattle.walk.proofs.Judging.{inside-fits, record-good}
 use Rattle.walk.proofs.Records.{next_place}
@@ -42,7 +42,7 @@ module _ (n a : ℕ) (p pre post : List ℕ) (at : ℕ) (is : at ≡ length pre)
   room : at + 12 + length p ≤ length img
   room = omega (arith, long, room-ge (length p))
 
-  read : found_at img n at ≡ Record (placed_of at (length p) a)
+  read : found_at img n at ≡ Ok (placed_of at (length p) a)
   read =
       sym (record-good (length img) at
       (inside-fits (length img) at (record { small = omega (arith, long, all, room-ge (length p)); room = omega (arith, room) }))

@@ -14,7 +14,7 @@ use Rattle.page.proofs.Page.{multiple-add}
 use Rattle.record.proofs.Record.{record-length, room-pages}
 use Rattle.record.specs.Record.{record_room, record_bytes, header_at}
 use Rattle.walk.specs.declared.Scan.{Scan}
-use Rattle.walk.specs.declared.Walked.TheVariants.{Ended}
+use Rattle.std.specs.Prelude.{Ok}
 use Rattle.walk.specs.Judging.{max_image, advanced_of, follows_of, live_of, goes_on, more_of}
 use Rattle.walk.specs.Walk.{walk_of}
 use Rattle.walk.specs.Records.{records_from, over, Plain}
@@ -80,7 +80,7 @@ module _ (s e b : ℕ) (w : Scan) (h : Seen s e b w) where
 module _ (f : ℕ → List ℕ) (s e : ℕ) where
   -- the walk of an image of records comes to the state after them
   pub walk-over : (n a : ℕ) (w : Scan) → w.pos ≡ 0 → Plain f a n → (goes_on w ≡ true → follows_of w.last a ≡ true)
-      → length (records_from f a n) ≤ max_image → walk_of (records_from f a n) s e w ≡ Ended (over f s e w a n)
+      → length (records_from f a n) ≤ max_image → walk_of (records_from f a n) s e w ≡ Ok (over f s e w a n)
   walk-over n a w at plain g room =
       let img : List ℕ = records_from f a n in
       let all : img ++ [] ≡ img = append-nil img in

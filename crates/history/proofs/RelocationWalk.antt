@@ -17,11 +17,11 @@ use Rattle.segment.specs.Segment.{image_of}
 use Rattle.image_rows.specs.ImageRows.{lowest_zero, one_apart}
 use Rattle.record.specs.Record.{header_at}
 use Rattle.walk.specs.declared.Scan.{Scan}
-use Rattle.walk.specs.declared.Step.TheVariants.{Next, Fault}
-use Rattle.walk.specs.declared.Walked.{Walked}
-use Rattle.walk.specs.declared.Walked.TheVariants.{Ended, Faulted}
+use Rattle.std.specs.Prelude.{Result, Ok, Err}
+use Rattle.refusal.specs.declared.Refusal.{Refusal}
+use Rattle.walk.specs.declared.Fault.{Fault}
 use Rattle.walk.specs.Judging.{record_step, next_image, more_of, live_of, cut_of, advanced_of, opened_of}
-use Rattle.walk.specs.Walk.{walk_of}
+use Rattle.walk.specs.Walk.{faulted, walk_of}
 use Rattle.walk.proofs.Judging.{went}
 use Rattle.walk.proofs.Walk.{walk-ind}
 use Rattle.recovery_walk.specs.Images.{Found, walked, images, image_walk, entered, filled_of, after, behind, row_at}
@@ -120,12 +120,12 @@ module _ (area : List ℕ) (c : ℕ) (area' : List ℕ) (c' s e : ℕ) where
       (after (entered w (next_image w (f.size j)) (walk_of (f.bytes j) s e))
       (λ d. behind (filled_of r' d ∷ []) (images area' c' s e rs' d))))
     where
-      go : (o : Walked) → r.id ≡ r'.id → r.size ≡ r'.size
+      go : (o : Result Scan Fault) → r.id ≡ r'.id → r.size ≡ r'.size
           → ((d : Scan) → placeless_walk (images area c s e rs d) ≡ placeless_walk (images area' c' s e rs' d))
           → placeless_walk (after o (λ d. behind (filled_of r d ∷ []) (images area c s e rs d)))
           ≡ placeless_walk (after o (λ d. behind (filled_of r' d ∷ []) (images area' c' s e rs' d)))
-      go (Faulted n v) i z ih = refl
-      go (Ended d) i z ih =
+      go (Err n) i z ih = refl
+      go (Ok d) i z ih =
           let one : placeless (filled_of r d) ≡ placeless (filled_of r' d) =
           λ j. record { id = i j; slot = 0; size = z j; min = d.min; max = d.max; newest_at = d.newest_at } in
           placeless-behind (filled_of r d) (images area c s e rs d)
@@ -172,10 +172,10 @@ module _ (img : List ℕ) (slot slot' s e : ℕ) (Q : (slot slot' off len : ℕ)
   unfolding moved_of advanced_of
   image-moved = walk-ind (length img) (header_at img) s e Both next fault end
     where
-      Both : Scan → Walked → Type 0
+      Both : Scan → Result Scan Fault → Type 0
       Both w a = (ws ws' : List ℕ) → Moved Q ws ws' → Passes (rows_in img slot s e (pen_with ws w)) (rows_in img slot' s e (pen_with ws' w))
 
-      next : (w d : Scan) (a : Walked) → more_of w (length img) ≡ true → record_step img s e w ≡ Next d → Both d a → Both w a
+      next : (w d : Scan) (a : Result Scan Fault) → more_of w (length img) ≡ true → record_step img s e w ≡ Ok d → Both d a → Both w a
       next w d a h m ih ws ws' q =
           let t = went (length img) s e w (header_at img w.pos) d m in
           let body : d.body ≡ w.pos + 12 = ap (λ (x : Scan). x.body) t.to in
@@ -186,12 +186,12 @@ module _ (img : List ℕ) (slot slot' s e : ℕ) (Q : (slot slot' off len : ℕ)
           (omega (arith, live_inside (length img) s e t.id (w.pos + 12 + t.len) t.whole (ap (live_of s e) (sym last) ∙ l)))) in
           rw (rows_next img slot s e (pen_with ws w) d h m, rows_next img slot' s e (pen_with ws' w) d h m) (ih _ _ (moved-join q row))
 
-      fault : (w : Scan) (n : ℕ) → more_of w (length img) ≡ true → record_step img s e w ≡ Fault n → Both w (Faulted n w)
+      fault : (w : Scan) (n : Refusal) → more_of w (length img) ≡ true → record_step img s e w ≡ Err n → Both w (faulted n w)
       fault w n h m ws ws' q =
           rw (rows-fault img slot s e (pen_with ws w) n h m, rows-fault img slot' s e (pen_with ws' w) n h m)
           (record { state = refl; words = q })
 
-      end : (w : Scan) → more_of w (length img) ≡ false → Both w (Ended w)
+      end : (w : Scan) → more_of w (length img) ≡ false → Both w (Ok w)
       end w h ws ws' q =
           rw (rows_end img slot s e (pen_with ws w) h, rows_end img slot' s e (pen_with ws' w) h) (record { state = refl; words = q })
 

@@ -16,8 +16,8 @@ use Rattle.segment.specs.declared.Segment.{Segment}
 use Rattle.segment.specs.Segment.{image_of}
 use Rattle.segment.specs.Chain.{Chain}
 use Rattle.walk.specs.declared.Scan.{Scan}
-use Rattle.walk.specs.declared.Walked.{Walked}
-use Rattle.walk.specs.declared.Walked.TheVariants.{Ended}
+use Rattle.std.specs.Prelude.{Result, Ok}
+use Rattle.walk.specs.declared.Fault.{Fault}
 use Rattle.walk.specs.Walk.{walk_of}
 use Rattle.walk.specs.Judging.{max_image, follows_of, start_of, opened_of}
 use Rattle.walk.specs.Records.{records_from, over, Plain}
@@ -84,7 +84,7 @@ module _ (area : List ℕ) (f : ℕ → List ℕ) (k c s e : ℕ) (order : s ≤
             gap = ne_eqb g.size 0 (λ y. omega (arith, (newest-fits area f k c g p up).header));
           }
 
-      image-is : image_walk area c s e (row_for g) w ≡ Ended at
+      image-is : image_walk area c s e (row_for g) w ≡ Ok at
       image-is =
           image-calm area c s e (row_for g) w (gap-calm w g.size h.gap)
           ∙ ap (λ (l : List ℕ). walk_of l s e front) p.image
@@ -151,7 +151,7 @@ module _ (area : List ℕ) (f : ℕ → List ℕ) (k c s e : ℕ) (order : s ≤
         record {
           d = r.d;
           is =
-              ap (λ (o : Walked). after o (λ d. behind (filled_of (row_for g) d ∷ []) (images area c s e (rows_for gs) d)))
+              ap (λ (o : Result Scan Fault). after o (λ d. behind (filled_of (row_for g) d ∷ []) (images area c s e (rows_for gs) d)))
               (image-is g t.good low up w v')
               ∙ ap (behind (filled_of (row_for g) d1 ∷ [])) r.is
               ∙ ap (λ (x : Segment). walked r.d (x ∷ map (read_to f e) gs)) (image-filled g t.good low up w v');

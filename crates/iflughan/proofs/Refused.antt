@@ -16,10 +16,10 @@ use Rattle.recovery.specs.Recovery.{recovery_answer}
 use Rattle.delta.specs.declared.Row.{Row}
 use Rattle.delta.specs.Table.{zero_row}
 use Rattle.delta.specs.Reading.{answered}
-use Rattle.iflughan.specs.Names.{written_name, parsed_name}
+use Rattle.iflughan.specs.Names.{written, parsed_name}
 use Rattle.iflughan.specs.Log.{logged_out, appended_out}
 use Rattle.iflughan.specs.Recover.{recovered_out, no_part, part_of}
-use Rattle.iflughan.specs.Deltas.{row_out, decoded_delta, written_delta}
+use Rattle.iflughan.specs.Deltas.{row_out, decoded_delta}
 use Rattle.iflughan.specs.declared.Delta.{Delta}
 
 -- a number of a refusal
@@ -47,11 +47,11 @@ recovery-refused (Outcome.done a) h = absurd (h refl)
 pub part-refused : (l : Log) (slot offset n number : ℕ) → let r = part_of l slot offset n number in Refused r.refusal → r ≡ no_part number
 part-refused l slot offset n number h = by-test (eqb number 0) (λ t. absurd (h (simp t))) (λ t. simp t)
 
--- a name that is not written: no length
-pub name-write-refused : (o : Outcome ℕ) → let r = written_name o in Refused r.refusal → r.length ≡ 0
-unfolding written_name
-name-write-refused (Outcome.refused n) h = refl
-name-write-refused (Outcome.done n) h = absurd (h refl)
+-- a name or a delta that is not written: no length
+pub write-refused : (o : Outcome ℕ) → let r = written o in Refused r.refusal → r.length ≡ 0
+unfolding written
+write-refused (Outcome.refused n) h = refl
+write-refused (Outcome.done n) h = absurd (h refl)
 
 -- a name that is not read: id 0
 pub name-parse-refused : (o : Outcome ℕ) → let r = parsed_name o in Refused r.refusal → r.id ≡ 0
@@ -69,9 +69,3 @@ pub delta-decode-refused : (o : Outcome ℕ) (rs : List Row) → let r = decoded
 unfolding decoded_delta
 delta-decode-refused (Outcome.refused n) rs h = (refl, refl)
 delta-decode-refused (Outcome.done n) rs h = absurd (h refl)
-
--- a delta that is not written: no length
-pub delta-encode-refused : (o : Outcome ℕ) → let r = written_delta o in Refused r.refusal → r.length ≡ 0
-unfolding written_delta
-delta-encode-refused (Outcome.refused n) h = refl
-delta-encode-refused (Outcome.done n) h = absurd (h refl)

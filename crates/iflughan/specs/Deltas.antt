@@ -2,11 +2,10 @@
 -- Assumes nothing.
 use Rattle.std.specs.Prelude.{ℕ, Bool, not, map, eqb, replicate}
 use Rattle.lists.specs.Choice.{pick}
-use Rattle.lists.specs.Outcome.{Outcome, either}
+use Rattle.lists.specs.Outcome.{either}
 use Rattle.delta.specs.declared.Row.{Row}
 use Rattle.delta.specs.declared.Table.{Table}
 use Rattle.delta.specs.Reading.{DecodeOutcome}
-use Rattle.iflughan.specs.declared.Written.{Written}
 use Rattle.iflughan.specs.declared.DeltaRow.{DeltaRow}
 use Rattle.iflughan.specs.declared.Delta.{Delta}
 use Rattle.iflughan.specs.declared.DecodedDelta.{DecodedDelta}
@@ -46,7 +45,3 @@ decoded_delta d = record {
   consumed = either (λ n. 0) (λ n. n) d.answer;
   table = table_out d.table;
 }
-
--- the refusal number and the length of a delta that is written
-unfoldable pub written_delta : Outcome ℕ → Written
-written_delta o = record { refusal = either (λ n. n) (λ n. 0) o; reserved = 0; length = either (λ n. 0) (λ n. n) o }

@@ -5,9 +5,9 @@ use Rattle.lists.specs.Outcome.{Outcome, either}
 use Rattle.iflughan.specs.declared.Written.{Written}
 use Rattle.iflughan.specs.declared.ParsedName.{ParsedName}
 
--- the refusal number and the length of a name that is written
-unfoldable pub written_name : Outcome ℕ → Written
-written_name o = record { refusal = either (λ n. n) (λ n. 0) o; reserved = 0; length = either (λ n. 0) (λ n. n) o }
+-- the refusal number and the length of a name or a delta that is written
+unfoldable pub written : Outcome ℕ → Written
+written o = record { refusal = either (λ n. n) (λ n. 0) o; reserved = 0; length = either (λ n. 0) (λ n. n) o }
 
 -- the refusal number and the id of a name that is read
 unfoldable pub parsed_name : Outcome ℕ → ParsedName

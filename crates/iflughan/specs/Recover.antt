@@ -3,13 +3,12 @@
 use Rattle.std.specs.Prelude.{◌≡◌, List, ℕ, ◌+◌, ◌*◌, eqb}
 use Rattle.lists.specs.Choice.{pick}
 use Rattle.seglog.specs.declared.Log.{Log}
-use Rattle.recovery.specs.declared.Recovered as Library
-use Rattle.recovery.specs.Recovery.{Recovery, recovery_answer, recovery_area, recovery_index}
+use Rattle.recovery.specs.Recovery.{Recovery, RecoveryAnswer, recovery_answer, recovery_area, recovery_index}
 use Rattle.iflughan.specs.declared.Part.{Part}
 use Rattle.iflughan.specs.declared.Recovered.{Recovered}
 
 -- the refusal number, the number of index rows and the log of a recovery
-abbrev pub recovered_out : Library.Recovered → Recovered
+abbrev pub recovered_out : RecoveryAnswer → Recovered
 recovered_out answer = record { refusal = answer.refusal; reserved = 0; rows = answer.rows; log = answer.log }
 
 -- what `iflughan_recover` ensures: the answer, every byte of the area, every word of the index

@@ -1,111 +1,98 @@
 // Deltas across the C interface: the library's table as rows of numbers and back, and the answers as numbers.
 ghost use Rattle.std.specs.Prelude.{◌≡◌};
 ghost use Rattle.delta.specs.Reading.{decode_outcome, decoded_of};
-ghost use Rattle.delta_encode.specs.Bytes.{encode_outcome, encoded_of, after_of};
-ghost use Rattle.iflughan.specs.Deltas.{table_in, mark_of, table_out, decoded_delta, written_delta};
+ghost use Rattle.delta_encode.specs.Bytes.{encoded_of, after_of};
+ghost use Rattle.iflughan.specs.Names.{written};
+ghost use Rattle.iflughan.specs.Deltas.{row_in, row_out, table_in, table_out, decoded_delta};
 
 use crate::{DecodedDelta, Delta, DeltaRow, Written};
 use delta::{Decoded, Row, Table};
-use delta_encode::Encoded;
+use refusal::Refusal;
 
-// The table that is lent, as the library holds it; any mark but 0 is present.
-fn table_in(t: Delta) -> Table
-    ensures { result ≡ table_in t }
-{
-    let zero = [0u8; 32];
-    let none = Row {
-        key: zero,
-        present: false,
-        offset: 0,
-        length: 0,
-    };
-    let mut rows = [none; 256];
-    let mut i: usize = 0;
-    while i < 256 {
-        let row = t.rows[i];
+// A row that is lent, as the library holds it; any mark but 0 is present.
+impl From<DeltaRow> for Row {
+    ghost from_gives = { λ from row. row ≡ row_in from };
+
+    fn from(row: DeltaRow) -> Row {
         let key = row.key;
-        rows[i] = Row {
+        Row {
             key,
             present: row.present != 0,
             offset: row.offset,
             length: row.length,
-        };
-        i += 1;
-    }
-    Table {
-        rows,
-        count: t.count as usize,
+        }
     }
 }
 
-// The mark that is written.
-fn mark(present: bool) -> u8
-    ensures { result ≡ mark_of present }
-{
-    if present {
-        return 1;
-    }
-    0
-}
+// The library's row, as it is answered.
+impl From<Row> for DeltaRow {
+    ghost from_gives = { λ from row. row ≡ row_out from };
 
-// The library's table, as it is answered.
-fn table_out(t: Table) -> Delta
-    ensures { result ≡ table_out t }
-{
-    let zero = [0u8; 32];
-    let reserved = [0u8; 7];
-    let none = DeltaRow {
-        key: zero,
-        present: 0,
-        reserved,
-        offset: 0,
-        length: 0,
-        reserved_too: 0,
-    };
-    let mut rows = [none; 256];
-    let mut i: usize = 0;
-    while i < 256 {
-        let row = t.rows[i];
+    fn from(row: Row) -> DeltaRow {
         let key = row.key;
-        let present = mark(row.present);
-        rows[i] = DeltaRow {
+        DeltaRow {
             key,
-            present,
-            reserved,
+            present: row.present as u8,
+            reserved: [0; 7],
             offset: row.offset,
             length: row.length,
             reserved_too: 0,
-        };
-        i += 1;
-    }
-    Delta {
-        count: t.count as u64,
-        rows,
+        }
     }
 }
 
-// The answer of `decode` as numbers.
-fn decoded_delta(decoded: Decoded) -> DecodedDelta
-    ensures { result ≡ decoded_delta (decode_outcome decoded) }
-{
-    let answer = decoded.answer;
-    let table = decoded.table;
-    DecodedDelta {
-        refusal: delta::decoding_number(answer),
-        reserved: 0,
-        consumed: delta::decoding_consumed(answer),
-        table: table_out(table),
+// The table that is lent, as the library holds it.
+impl From<Delta> for Table {
+    ghost from_gives = { λ from table. table ≡ table_in from };
+
+    fn from(t: Delta) -> Table {
+        let mut rows = [Row::default(); 256];
+        for (i, row) in t.rows.iter().enumerate() {
+            rows[i] = Row::from(*row);
+        }
+        Table {
+            rows,
+            count: t.count as usize,
+        }
     }
 }
 
-// The answer of `encode` as numbers.
-fn written_delta(answer: Encoded) -> Written
-    ensures { result ≡ written_delta (encode_outcome answer) }
-{
-    Written {
-        refusal: delta_encode::encoded_number(answer),
-        reserved: 0,
-        length: delta_encode::encoded_length(answer),
+// The library's table, as it is answered.
+impl From<Table> for Delta {
+    ghost from_gives = { λ from table. table ≡ table_out from };
+
+    fn from(t: Table) -> Delta {
+        let mut rows = [DeltaRow::from(Row::default()); 256];
+        for (i, row) in t.rows.iter().enumerate() {
+            rows[i] = DeltaRow::from(*row);
+        }
+        Delta {
+            count: t.count as u64,
+            rows,
+        }
+    }
+}
+
+// The bytes consumed and the rows; no rows beside a refusal.
+impl From<Result<Decoded, Refusal>> for DecodedDelta {
+    ghost from_gives = { λ answer d. d ≡ decoded_delta (decode_outcome answer) };
+
+    #[tactic(auto, unfolding(crate::specs::Deltas::decoded_delta))]
+    fn from(answer: Result<Decoded, Refusal>) -> DecodedDelta {
+        match answer {
+            Ok(decoded) => DecodedDelta {
+                refusal: 0,
+                reserved: 0,
+                consumed: decoded.consumed as u64,
+                table: Delta::from(decoded.table),
+            },
+            Err(refusal) => DecodedDelta {
+                refusal: refusal.number(),
+                reserved: 0,
+                consumed: 0,
+                table: Delta::from(Table::default()),
+            },
+        }
     }
 }
 
@@ -114,14 +101,14 @@ fn written_delta(answer: Encoded) -> Written
 pub extern "C" fn iflughan_delta_decode(input: &[u8]) -> DecodedDelta
     ensures { result ≡ decoded_delta (decoded_of 256 input.now) }
 {
-    decoded_delta(delta::decode(input))
+    DecodedDelta::from(delta::decode(input))
 }
 
 // Writes the delta of a table at the front of out, and answers its length; 43, 42, 44.
 #[unsafe(no_mangle)]
 pub extern "C" fn iflughan_delta_encode(table: Delta, values: &[u8], out: &mut [u8]) -> Written
-    ensures answer { result ≡ written_delta (encoded_of 256 (table_in table) values.now out.old) }
+    ensures answer { result ≡ written (encoded_of 256 (table_in table) values.now out.old) }
     ensures buffer { out.new ≡ after_of 256 (table_in table) values.now out.old }
 {
-    written_delta(delta_encode::encode(table_in(table), values, out))
+    Written::from(delta_encode::encode(Table::from(table), values, out))
 }

@@ -1,48 +1,41 @@
-// Recovery across the C interface, and the rows of its index: the library's answers with the padding named, a payload as a place.
+// Recovery across the C interface, and the rows of its index: the library's answers as structs of numbers, a payload as a place.
 ghost use Rattle.std.specs.Prelude.{◌≡◌, length};
 ghost use Rattle.image_rows.specs.Rows.{listed_of};
 ghost use Rattle.payload.specs.Row.{row_question};
-ghost use Rattle.recovery.specs.Recovery.{recovery_of};
+ghost use Rattle.recovery.specs.Recovery.{answered, recovery_of};
 ghost use Rattle.iflughan.specs.Recover.{recovered_out, Recovers, part_of};
 
 use crate::{Part, Recovered};
 use image_rows::Rows;
-use payload::RowAnswer;
-use seglog::Log;
+use payload::IndexRow;
+use refusal::Refusal;
+use seglog::{Log, Shape};
 use segment::ImageRow;
+use walk::Range;
 
-// The answer of `recover`, with the padding named.
-fn recovered_out(answer: recovery::Recovered) -> Recovered
-    ensures { result ≡ recovered_out answer }
-{
-    let log = answer.log;
-    Recovered {
-        refusal: answer.refusal,
-        reserved: 0,
-        rows: answer.rows,
-        log,
+// The answer of `recover` as a struct of numbers; no rows and the all-zero log beside a refusal.
+impl From<Result<recovery::Recovered, Refusal>> for Recovered {
+    ghost from_gives = { λ answer r. r ≡ recovered_out (answered answer) };
+
+    fn from(answer: Result<recovery::Recovered, Refusal>) -> Recovered {
+        match answer {
+            Ok(recovered) => Recovered {
+                refusal: 0,
+                reserved: 0,
+                rows: recovered.rows,
+                log: recovered.log,
+            },
+            Err(refusal) => Recovered {
+                refusal: refusal.number(),
+                reserved: 0,
+                rows: 0,
+                log: seglog::empty_log(Shape { k: 0, c: 0, m: 0 }),
+            },
+        }
     }
 }
 
-// The log of the records s..e from the images that the rows list, and its index; 1, 11 to 23. The rows stand in an array.
-fn recover_out(
-    k: u64,
-    c: u64,
-    m: u64,
-    area: &mut [u8],
-    rows: Rows,
-    s: u64,
-    e: u64,
-    index: &mut [u64],
-) -> Recovered
-    ensures { Recovers
-        (recovery_of k c m area.old (listed_of rows) s e (length index.old))
-        area.old index.old result area.new index.new }
-{
-    recovered_out(recovery::recover(k, c, m, area, rows, s, e, index))
-}
-
-// The same from rows that arrive as a lent slice of records: they are read once.
+// The log of the records s..e from the images that the rows list, and its index; 1, 11 to 23. The rows are read once.
 #[unsafe(no_mangle)]
 pub extern "C" fn iflughan_recover(
     k: u64,
@@ -59,7 +52,9 @@ pub extern "C" fn iflughan_recover(
         area.old index.old result area.new index.new }
 {
     let rows = recovery::read_rows(images);
-    recover_out(k, c, m, area, rows, s, e, index)
+    let shape = Shape { k, c, m };
+    let range = Range { s, e };
+    Recovered::from(recovery::recover(shape, area, rows, range, index))
 }
 
 // Whether an index row is good for this log and area; 2, 24. The id is not looked at.
@@ -74,7 +69,16 @@ pub extern "C" fn iflughan_row_question(
 ) -> u32
     ensures { result ≡ row_question log area.now slot offset length }
 {
-    payload::row_number(payload::row_question(log, area, id, slot, offset, length))
+    let row = IndexRow {
+        id,
+        slot,
+        offset,
+        length,
+    };
+    match payload::row_question(log, area, row) {
+        Ok(()) => 0,
+        Err(refusal) => refusal.number(),
+    }
 }
 
 // The place of a row's payload in the area; 2, 24.
@@ -89,20 +93,24 @@ pub extern "C" fn iflughan_payload(
 ) -> Part
     ensures { result ≡ part_of log slot offset length (row_question log area.now slot offset length) }
 {
-    let answer = payload::row_question(log, area, id, slot, offset, length);
-    let RowAnswer::Good = answer else {
-        return Part {
-            refusal: payload::row_number(answer),
+    let row = IndexRow {
+        id,
+        slot,
+        offset,
+        length,
+    };
+    match payload::row_question(log, area, row) {
+        Ok(()) => Part {
+            refusal: 0,
+            reserved: 0,
+            at: slot * log.c + offset,
+            length,
+        },
+        Err(refusal) => Part {
+            refusal: refusal.number(),
             reserved: 0,
             at: 0,
             length: 0,
-        };
-    };
-    let at = slot * log.c + offset;
-    Part {
-        refusal: 0,
-        reserved: 0,
-        at,
-        length,
+        },
     }
 }

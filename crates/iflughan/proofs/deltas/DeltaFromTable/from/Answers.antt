@@ -1,0 +1,24 @@
+-- The library's table, as it is answered, row by row. Assumes (erased []).
+use Rattle.std.proofs.Common.{◌≡◌, [], ℕ, length, refl, sym, ap, subst, get_or, ◌+◌, ◌∙◌, rules}
+use lib.ListN.{set}
+use Rattle.lists.proofs.Arrays.{unmapped}
+use Rattle.delta.specs.Table.{erased}
+use Rattle.iflughan.specs.Deltas.{row_out}
+use Rattle.iflughan.proofs.DeltasRows.{Turned, turned-more, turned-all}
+use Rattle.iflughan.proofs.deltas.DeltaFromTable.from.Goals as goal
+
+pub loop-i-init : goal.loop-i-init
+loop-i-init c =
+    let l : length c.args.t.rows ≡ 256 = search (rules, unmapped) in
+    record { long = sym l; front = refl }
+
+pub loop-i-preserved : goal.loop-i-preserved
+loop-i-preserved c =
+    let l : length c.args.t.rows ≡ 256 = search (rules, unmapped) in
+    rw c.from.ensures (turned-more row_out c.args.t.rows c.loop-i.rows c.loop-i.i (erased []) (rw l c.loop-i-test.true) c.loop-i.invariant)
+
+pub returns : goal.returns
+returns c =
+    let l : length c.args.t.rows ≡ 256 = search (rules, unmapped) in
+    let rows = turned-all row_out c.args.t.rows c.loop-i.rows c.loop-i.i (rw l c.loop-i-test.false) c.loop-i.invariant in
+    λ i. record { count = c.args.t.count; rows = rows i }
