@@ -1,5 +1,4 @@
 pub mod TablePlain
-pub mod TablePlacing
 pub mod TableArranged
 pub mod Entries
 pub mod Reading

@@ -2,7 +2,6 @@
 use mathlib.Core.Path.{◌≡◌, refl, sym, ap, subst, ◌∙◌}
 use mathlib.Core.Bool.{Bool, true, false}
 use mathlib.Core.List.{List}
-use mathlib.Core.Logic.{◌⊎◌, ⊎_elim}
 use Prim.Native.Nat.{ℕ, ◌+◌, ◌-◌, ◌%◌, ◌≤◌, ◌<◌}
 use native.Mathlib.Omega.{arith}
 use lib.ListN.{length}
@@ -17,7 +16,9 @@ use Rattle.lists.proofs.Until.{until-again, until_stop, until-keeps}
 use Rattle.page.specs.Page.{padded_end}
 use Rattle.page.proofs.Page.{pad-ge, pad-least, pad-multiple}
 use Rattle.record.specs.declared.RecordHeader.{RecordHeader}
-use Rattle.record.specs.Record.{max_payload, header_at}
+use Rattle.record.specs.Record.{max_payload, header_of, header_at}
+use Rattle.record.proofs.Record.{header-answer}
+use Rattle.refusal.specs.Refusals.{outcome}
 use Rattle.refusal.specs.declared.Refusal.{Refusal}
 use Rattle.refusal.specs.declared.Refusal.TheVariants.{ShortHeader, HeaderTooLong}
 use Rattle.walk.specs.declared.Placed.{Placed}
@@ -64,27 +65,21 @@ module _ (img : List ℕ) (n at : ℕ) where
   abbrev pub found_at : Result Placed Refusal
   found_at = record_at (length img) at (header_at img at)
 
-  -- a header that can't be read
-  pub look-unread : (r : Refusal) → found_at ≡ Err r → Nothing ≡ look_at img n at
-  unfolding look_at
-  look-unread r read = rw read refl
-
-  module _ (p : Placed) (read : found_at ≡ Ok p) where
-    -- a payload that ends past the image, whether or not it is of the record looked for
-    pub look-past : length img < p.end → Nothing ≡ look_at img n at
+  module _ (p : Placed) (read : found_at ≡ Ok p) (fits : p.end ≤ length img) where
+    -- the record looked for
+    pub look-here : p.id ≡ n → Here (record { at = at; end = p.next }) ≡ look_at img n at
     unfolding look_at
-    look-past past = simp (read, lt-ltb (length img) p.end past)
+    look-here e = simp (read, le-ltb (length img) p.end fits, eq-eqb p.id n e)
 
-    module _ (fits : p.end ≤ length img) where
-      -- the record looked for
-      pub look-here : p.id ≡ n → Here (record { at = at; end = p.next }) ≡ look_at img n at
-      unfolding look_at
-      look-here e = simp (read, le-ltb (length img) p.end fits, eq-eqb p.id n e)
+    -- another record
+    pub look-other : (p.id ≡ n → ⊥) → Other p.next ≡ look_at img n at
+    unfolding look_at
+    look-other e = simp (read, le-ltb (length img) p.end fits, ne_eqb p.id n e)
 
-      -- another record
-      pub look-other : (p.id ≡ n → ⊥) → Other p.next ≡ look_at img n at
-      unfolding look_at
-      look-other e = simp (read, le-ltb (length img) p.end fits, ne_eqb p.id n e)
+-- what the walk makes of the header that was read
+pub answer_at : (img : List ℕ) (at : ℕ) (h : Result RecordHeader Refusal) → outcome h ≡ header_of img at
+    → record_at (length img) at h ≡ record_at (length img) at (header_at img at)
+answer_at img at h e = ap (record_at (length img) at) (header-answer h img at e)
 
 -- a record that ends inside the image, from a whole page to its padded end
 pub record Ends (img : List ℕ) (x : Newest) : Type 0 where
@@ -115,10 +110,6 @@ look-tells img n at = go (found_at img n at) refl
     go (Err m) r = tt
     go (Ok p) r =
         by p (ltb (length img) p.end) (eqb p.id n) (record-placed (length img) at (header_at img at) p r) refl
-
--- what the other two answers come to, by the equation that a branch is told
-pub only-lost : (o : Look) → ((x : ℕ) × (o ≡ Other x)) ⊎ (o ≡ Nothing) → only o ≡ lost
-only-lost o is = ⊎_elim (λ h. ap only h.1) (λ h. ap only h) is
 
 -- ---- the search
 

@@ -90,6 +90,7 @@ fn remaining(segs: &[Segment], n: u64) -> usize
 }
 
 // What the header at a place of an image tells of the record n. A payload past the image is no record, whose ever it is.
+#[tactic(auto, using(crate::proofs::Cut::answer_at), unfolding(crate::specs::Cut::look_at))]
 fn look_at(img: &[u8], n: u64, at: u64) -> Look
     ensures { result ≡ look_at img.now n at }
 {
@@ -137,6 +138,7 @@ fn find_cut(img: &[u8], n: u64) -> Result<Newest, Refusal>
 }
 
 // The record n of a segment with its image: the newest one by its header alone, any other by the search.
+#[tactic(auto, unfolding(crate::specs::Cut::cut_in))]
 fn cut_in(g: Segment, img: &[u8], n: u64) -> Result<Newest, Refusal>
     ensures { outcome result ≡ cut_in g img.now n }
 {
@@ -147,6 +149,7 @@ fn cut_in(g: Segment, img: &[u8], n: u64) -> Result<Newest, Refusal>
 }
 
 // 2, the two easy outcomes, 8, 9.
+#[tactic(auto, using(crate::proofs::Decide::listed_some), unfolding(crate::specs::Decide::early_of))]
 fn decide_early(log: Log, bytes: usize, n: u64) -> Result<Early, Refusal>
     ensures { result ≡ early_of (view_of log) (fitting_of log bytes) n }
 {
@@ -189,13 +192,10 @@ fn started(log: Log, n: u64) -> Log
 {
     let first = leading(&log.segs[..log.count], n);
     Log {
-        k: log.k,
-        c: log.c,
-        m: log.m,
         start: n,
-        end: log.end,
         count: log.count - first,
         segs: shifted(log.segs, first),
+        ..log
     }
 }
 
@@ -208,13 +208,10 @@ fn ended(log: Log, left: usize, n: u64, newest: Newest) -> Log
     let head = left - 1;
     segs[head] = segment::ended_at(segs[head], n, newest.at, newest.end);
     Log {
-        k: log.k,
-        c: log.c,
-        m: log.m,
-        start: log.start,
         end: n,
         count: left,
         segs,
+        ..log
     }
 }
 

@@ -2,10 +2,9 @@
 -- Assumes nothing.
 use mathlib.Core.Path.{◌≡◌, refl, sym, ap, ◌∙◌}
 use mathlib.Core.Bool.{Bool, true, false, ◌&&◌, not, and-false}
-use Prim.Native.Nat.{ℕ, zero, suc, ◌+◌, ◌-◌, ◌≤◌, ◌<◌}
-use native.Mathlib.Numerals.{add-one, sub-one}
+use Prim.Native.Nat.{ℕ, suc, ◌+◌, ◌-◌, ◌≤◌, ◌<◌}
 use native.Mathlib.Omega.{arith}
-use lib.Dec.{ltb, leb, eqb, eqb-suc-suc, lit<, lit≤}
+use lib.Dec.{ltb, leb, eqb, lit<, lit≤}
 use borrow.Author.Tests.{eq-eqb, ne_eqb, ltb-true, ltb-false, lt-ltb, le-ltb, leb-true, le-leb, lt-leb, eqb-true, eqb-false}
 use Rattle.std.specs.Prelude.{List, length, Result, Ok, Err}
 use Rattle.lists.specs.Choice.{pick}
@@ -62,15 +61,6 @@ pub gap-stopped : (w : Scan) (n : ℕ) → goes_on w ≡ false → gap_of w n �
 unfolding gap_of
 gap-stopped w n g = ap (λ (b : Bool). b && (w.gap && ltb 0 n)) g
 
--- a gap by its tests one behind the other
-pub gap-by : (w : Scan) (n : ℕ) (v : Bool) → v ≡ goes_on w && w.gap → v && ltb 0 n ≡ gap_of w n
-unfolding gap_of
-gap-by w n v e = rw e (go (goes_on w))
-  where
-    go : (g : Bool) → (g && w.gap) && ltb 0 n ≡ g && (w.gap && ltb 0 n)
-    go true = refl
-    go false = refl
-
 -- no gap where the image opened last has a size above 0
 pub gap-calm : (w : Scan) (n : ℕ) → w.gap ≡ false → gap_of w n ≡ false
 unfolding gap_of
@@ -112,34 +102,15 @@ pub record Inside (size pos : ℕ) : Type 0 where
   pub small : pos + 12 ≤ max_image
   pub room : pos + 12 ≤ size
 
-pub fits-inside : (size pos : ℕ) → header_fits size pos ≡ true → Inside size pos
+pub fits_inside : (size pos : ℕ) → header_fits size pos ≡ true → Inside size pos
 unfolding header_fits
-fits-inside size pos h =
+fits_inside size pos h =
     let t = and_both (leb (pos + 12) max_image) (leb (pos + 12) size) h in
     record { small = leb-true (pos + 12) max_image t.0; room = leb-true (pos + 12) size t.1 }
 
 pub inside-fits : (size pos : ℕ) → Inside size pos → header_fits size pos ≡ true
 unfolding header_fits
 inside-fits size pos h = simp (le-leb (pos + 12) max_image h.small, le-leb (pos + 12) size h.room)
-
-eqb-before : (id last : ℕ) → (id ≡ 0 → ⊥) → eqb (id - 1) last ≡ eqb id (last + 1)
-eqb-before zero last h = absurd (h refl)
-eqb-before (suc n) last h = rw (sub-one, add-one) (sym (eqb-suc-suc n last))
-
--- 0 follows nothing
-pub follows-zero : (last id : ℕ) → id ≡ 0 → false ≡ follows_of last id
-unfolding follows_of
-follows-zero last id h = simp (eq-eqb _ _ h)
-
--- the scan's first record may have any id but 0
-pub follows-first : (last id : ℕ) → (id ≡ 0 → ⊥) → last ≡ 0 → true ≡ follows_of last id
-unfolding follows_of
-follows-first last id h l = simp (ne_eqb _ _ h, eq-eqb _ _ l)
-
--- a later id is compared without forming the one after the last
-pub follows_next : (last id : ℕ) → (id ≡ 0 → ⊥) → (last ≡ 0 → ⊥) → eqb (id - 1) last ≡ follows_of last id
-unfolding follows_of
-follows_next last id h l = simp (ne_eqb _ _ h, ne_eqb _ _ l) (eqb-before id last h)
 
 -- each id follows the one before it
 pub follows-suc : (a : ℕ) → follows_of a (suc a) ≡ true
@@ -199,22 +170,11 @@ pub record-short : (size pos : ℕ) (h : Result RecordHeader Refusal) → header
 unfolding record_at
 record-short size pos h f = simp f
 
-module _ (size pos : ℕ) (fits : header_fits size pos ≡ true) where
-  -- a header that can't be read: why it can't
-  pub record-refused : (h : Result RecordHeader Refusal) (r : Refusal) → h ≡ Err r → Err r ≡ record_at size pos h
-  unfolding record_at
-  record-refused h r is = rw is (simp fits)
-
-  module _ (k : RecordHeader) (h : Result RecordHeader Refusal) (is : h ≡ Ok k) where
-    -- 18: its length is too large
-    pub record-long : max_payload < k.length → Err HeaderTooLong ≡ record_at size pos h
-    unfolding record_at
-    record-long l = rw is (simp (fits, lt-ltb max_payload k.length l))
-
-    -- else the record
-    pub record-good : k.length ≤ max_payload → Ok (placed_of pos k.length k.id) ≡ record_at size pos h
-    unfolding record_at
-    record-good l = rw is (simp (fits, le-ltb max_payload k.length l))
+-- a header that fits and is not too long: the record
+pub record-good : (size pos : ℕ) → header_fits size pos ≡ true → (k : RecordHeader) (h : Result RecordHeader Refusal) → h ≡ Ok k
+    → k.length ≤ max_payload → Ok (placed_of pos k.length k.id) ≡ record_at size pos h
+unfolding record_at
+record-good size pos fits k h is l = rw is (simp (fits, le-ltb max_payload k.length l))
 
 module _ (size s e : ℕ) (w : Scan) (p : Placed) where
   -- 19: the id does not follow
@@ -287,7 +247,7 @@ went size s e w h d t = by (header_fits size w.pos) h refl t
               len = k.length;
               id = k.id;
               read = refl;
-              inside = fits-inside size w.pos ea;
+              inside = fits_inside size w.pos ea;
               small = ltb-false max_payload k.length eb;
               follows = ef;
               whole = eg;

@@ -21,6 +21,7 @@ pub struct Range {
 
 impl Range {
     // Whether a record is live.
+    #[tactic(auto, unfolding(crate::specs::Judging::live_of))]
     pub fn holds(self, id: u64) -> bool
         ensures { result ≡ live_of self.s self.e id }
     {
@@ -93,6 +94,7 @@ pub fn opened(state: Scan, size: u64) -> Scan
 }
 
 // One more image, of `size` bytes: 16, or the state at its front.
+#[tactic(auto, unfolding(crate::specs::Judging::next_image))]
 pub fn next_image(state: Scan, size: u64) -> Result<Scan, Refusal>
     ensures { result ≡ next_image state size }
 {
@@ -103,6 +105,7 @@ pub fn next_image(state: Scan, size: u64) -> Result<Scan, Refusal>
 }
 
 // Whether the walk goes on: it stops once e's record is read.
+#[tactic(auto, unfolding(crate::specs::Judging::goes_on))]
 pub fn goes_on(state: Scan) -> bool
     ensures { result ≡ goes_on state }
 {
@@ -110,6 +113,7 @@ pub fn goes_on(state: Scan) -> bool
 }
 
 // Whether the image, of `size` bytes, has one more record to read at the state's place.
+#[tactic(auto, unfolding(crate::specs::Judging::more_of))]
 pub fn more(state: Scan, size: u64) -> bool
     ensures { result ≡ more_of state size }
 {
@@ -117,6 +121,7 @@ pub fn more(state: Scan, size: u64) -> bool
 }
 
 // The record whose header was read at `pos` of an image of `size` bytes: 17 where twelve bytes do not fit, 18 where it is too long.
+#[tactic(auto, using(crate::proofs::Judging::fits_inside), unfolding(crate::specs::Judging::record_at))]
 pub fn record_at(
     size: u64,
     pos: u64,
@@ -135,6 +140,7 @@ pub fn record_at(
 }
 
 // The header's answer at the state's place of an image of `size` bytes: 17 to 20, or the state after the record.
+#[tactic(auto, unfolding(crate::specs::Judging::judge_of, crate::specs::Judging::judge_record))]
 pub fn judge(
     size: u64,
     range: Range,

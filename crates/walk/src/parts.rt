@@ -13,6 +13,7 @@ const LAST_HEADER: u64 = 2147483636;
 // ---- the record at a place
 
 // Whether a header at `pos` lies in an image of `size` bytes; `pos + 12` is formed only where it fits.
+#[tactic(auto, unfolding(crate::specs::Judging::header_fits))]
 pub(crate) fn header_fits(size: u64, pos: u64) -> bool
     ensures { result ≡ header_fits size pos }
 {
@@ -23,7 +24,7 @@ pub(crate) fn placed(pos: u64, header: RecordHeader) -> Placed
     requires { (pos + 12 ≤ max_image) × (header.length ≤ max_payload) }
     ensures { result ≡ placed_of pos header.length header.id }
 {
-    let len = header.length as u64;
+    let len = u64::from(header.length);
     let body = pos + 12;
     let end = body + len;
     let next = page::padded_end(end as u32);
@@ -39,6 +40,7 @@ pub(crate) fn placed(pos: u64, header: RecordHeader) -> Placed
 // ---- the step
 
 // Whether an id may stand after the last one; never forms `last + 1`, which may not fit.
+#[tactic(auto, unfolding(crate::specs::Judging::follows_of))]
 fn follows(last: u64, id: u64) -> bool
     ensures { result ≡ follows_of last id }
 {
@@ -46,6 +48,7 @@ fn follows(last: u64, id: u64) -> bool
 }
 
 // A live record whose payload ends past the image.
+#[tactic(auto, unfolding(crate::specs::Judging::cut_of))]
 fn cut_short(size: u64, range: Range, id: u64, end: u64) -> bool
     ensures { result ≡ cut_of size range.s range.e id end }
 {
@@ -78,6 +81,7 @@ fn pass(state: Scan, range: Range, found: Placed) -> Scan
 }
 
 // A record at the state's place: 19, 20, or the state after it.
+#[tactic(auto, unfolding(crate::specs::Judging::judge_record))]
 pub(crate) fn judge_record(
     size: u64,
     range: Range,
@@ -98,6 +102,7 @@ pub(crate) fn judge_record(
 // ---- one more image
 
 // Whether an image of `size` bytes stands directly after one of size 0, and is not of size 0 itself; behind e's record nobody looks.
+#[tactic(auto, unfolding(crate::specs::Judging::gap_of))]
 pub(crate) fn gapped(state: Scan, size: u64) -> bool
     ensures { result ≡ gap_of state size }
 {
