@@ -4,7 +4,7 @@ use Rattle.std.specs.Prelude.{List, [], ◌∷◌, ℕ, length, eqb}
 use Rattle.lists.specs.Choice.{pick}
 use Rattle.seglog.specs.declared.Log.{Log}
 use Rattle.seglog.specs.New.{new_of}
-use Rattle.seglog_append.specs.declared.Appended.{Appended}
+use Rattle.seglog_append.specs.Appending.{AppendAnswer}
 use Rattle.seglog_append.specs.Appending.{Left, append_log, append_answer, append_area}
 use Rattle.lists.specs.Outcome.{Outcome}
 use Rattle.seglog_prune.specs.Prune.{Pruned, oldest_log, recent_log, prune_answer, prune_area}
@@ -63,7 +63,7 @@ abbrev pub noted : (ℕ → List ℕ) → ℕ → List ℕ → ℕ → List ℕ
 noted f id p i = pick (eqb i id) p (f i)
 
 -- an append's answer: an accepted one gives the id under which p now stands
-abbrev pub heard : (ℕ → List ℕ) → List ℕ → Appended → ℕ → List ℕ
+abbrev pub heard : (ℕ → List ℕ) → List ℕ → AppendAnswer → ℕ → List ℕ
 heard f p r = pick (eqb r.refusal 0) (noted f r.id p) f
 
 -- a call's answer: a prune takes nothing back

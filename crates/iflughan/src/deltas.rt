@@ -45,6 +45,7 @@ impl From<Row> for DeltaRow {
 impl From<Delta> for Table {
     ghost from_gives = { λ from table. table ≡ table_in from };
 
+    #[inline(never)]
     fn from(t: Delta) -> Table {
         let mut rows = [Row::default(); 256];
         for (i, row) in t.rows.iter().enumerate() {
@@ -61,6 +62,7 @@ impl From<Delta> for Table {
 impl From<Table> for Delta {
     ghost from_gives = { λ from table. table ≡ table_out from };
 
+    #[inline(never)]
     fn from(t: Table) -> Delta {
         let mut rows = [DeltaRow::from(Row::default()); 256];
         for (i, row) in t.rows.iter().enumerate() {
