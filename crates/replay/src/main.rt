@@ -7,103 +7,62 @@ mod deltas;
 mod digest;
 mod fields;
 mod images;
+mod kinds;
 mod logs;
 mod names;
 
-use logs::Turn;
-use seglog::Log;
+use fields::Line;
+use kinds::{KINDS, Kind};
+use logs::{Differs, agreed};
+use seglog::{Log, Shape};
 use std::env::Env;
 use std::fs::File;
 use std::io;
 use std::io::{Read, Seek, SeekFrom};
 
-// The kinds of lines, in the order of their counts.
-const KINDS: usize = 13;
+// The lines that are read: the last of them is said to differ where the file has as many.
+const LIMIT: u64 = 1000000;
 
-// One line of the file: where the next begins, its kind, whether the answer was the recorded one, and the log after it.
+// What stands at a place of the file: its end; a line that was replayed, where the next begins and the log after it; or one that differs.
 #[derive(Clone, Copy)]
-struct Replayed {
-    next: u64,
-    kind: usize,
-    good: bool,
-    log: Log,
+enum Found {
+    End,
+    Replayed { kind: Kind, next: u64, log: Log },
+    Differs,
 }
 
-// A kind's place among the counts; their number where it is none.
-fn kind_of(line: &[u8]) -> usize {
-    if line.len() == 0 {
-        return KINDS;
-    }
-    let first = line[0];
-    match first {
-        b'W' => 0,
-        b'P' => 1,
-        b'D' => 2,
-        b'E' => 3,
-        b'L' => 4,
-        b'A' => 5,
-        b'O' => 6,
-        b'R' => 7,
-        b'V' => 8,
-        b'B' => 9,
-        b'I' => 10,
-        b'J' => 11,
-        b'N' => 12,
-        _ => KINDS,
-    }
+// The part of the area that the log has.
+fn used(log: Log, area: &mut [u8]) -> Result<&mut [u8], Differs> {
+    area.get_mut(..slices::room(log.k, log.c)).ok_or(Differs)
 }
 
-// A line of a history, over the part of the area that its log has.
-fn call(kind: usize, line: &[u8], log: Log, area: &mut [u8], payload: &mut [u8]) -> Turn {
-    let room = slices::room(log.k, log.c);
-    if area.len() < room {
-        return Turn { good: false, log };
-    }
-    let used = &mut area[..room];
-    match kind {
-        5 => logs::appended(line, log, used, payload),
-        6 => logs::oldest(line, log, used),
-        7 => logs::recent(line, log, used),
-        9 => images::laid(line, log, used, payload),
-        10 => images::recovered(line, log, used),
-        11 => images::recovered_up_to_e(line, log, used),
-        12 => logs::recent_at_newest(line, log, used),
-        _ => logs::recovered(line, log, used),
-    }
-}
-
-// A line of names or deltas; the log stays.
-fn codec(kind: usize, line: &[u8], one: &mut [u8], two: &mut [u8]) -> bool {
-    match kind {
-        0 => names::written(line, one, two),
-        1 => names::parsed(line, one, two),
-        2 => deltas::decoded(line, one, two),
-        _ => deltas::encoded(line, one, two),
-    }
-}
-
-// Replays one line.
+// Replays one line. One of names or deltas leaves the log as it is.
 fn replay(
-    kind: usize,
-    line: &[u8],
+    kind: Kind,
+    line: Line<'_>,
     log: Log,
     area: &mut [u8],
     one: &mut [u8],
     two: &mut [u8],
-) -> Turn {
-    if kind < 4 {
-        return Turn {
-            good: codec(kind, line, one, two),
-            log,
-        };
+) -> Result<Log, Differs> {
+    match kind {
+        Kind::NameWritten => agreed(names::written(line, one, two), log),
+        Kind::NameParsed => agreed(names::parsed(line, one, two), log),
+        Kind::DeltaDecoded => agreed(deltas::decoded(line, one, two), log),
+        Kind::DeltaEncoded => agreed(deltas::encoded(line, one, two), log),
+        Kind::Started => logs::started(line, area),
+        Kind::Appended => logs::appended(line, log, used(log, area)?, one),
+        Kind::PrunedOldest => logs::oldest(line, log, used(log, area)?),
+        Kind::PrunedRecent => logs::recent(line, log, used(log, area)?),
+        Kind::Recovered => logs::recovered(line, log, used(log, area)?),
+        Kind::Laid => images::laid(line, log, used(log, area)?, one),
+        Kind::RecoveredFromImages => images::recovered(line, log, used(log, area)?),
+        Kind::RecoveredUpToE => images::recovered_up_to_e(line, log, used(log, area)?),
+        Kind::PrunedAtNewest => logs::recent_at_newest(line, log, used(log, area)?),
     }
-    if kind == 4 {
-        return logs::started(line, area);
-    }
-    call(kind, line, log, area, one)
 }
 
-// Reads and replays the line that begins at `at`. At the end of the file the next line begins there too.
+// Reads and replays the line that begins at `at`.
 fn step(
     file: &mut File,
     at: u64,
@@ -111,114 +70,75 @@ fn step(
     area: &mut [u8],
     one: &mut [u8],
     two: &mut [u8],
-) -> io::Result<Replayed> {
+) -> io::Result<Found> {
     let mut piece = [0u8; 65536];
     file.seek(SeekFrom::Start(at % 4294967296))?;
     let n = file.read(&mut piece)?;
-    let end = fields::find(&piece[..n], 0, b'\n');
-    let line = slices::front(&piece, end);
-    let kind = kind_of(line);
-    if n <= end {
-        return Ok(Replayed {
-            next: at,
+    let read = &piece[..n];
+    let Some(&letter) = read.first() else {
+        return Ok(Found::End);
+    };
+    let Some(end) = read.iter().position(|byte| *byte == b'\n') else {
+        return Ok(Found::Differs);
+    };
+    let line = Line(&read[..end]);
+    let Ok(kind) = Kind::try_from(letter) else {
+        return Ok(Found::Differs);
+    };
+    match replay(kind, line, log, area, one, two) {
+        Ok(log) => Ok(Found::Replayed {
             kind,
-            good: n == 0,
+            next: at.wrapping_add(end as u64 + 1),
             log,
-        });
+        }),
+        Err(Differs) => Ok(Found::Differs),
     }
-    let turn = replay(kind, line, log, area, one, two);
-    let after = turn.log;
-    Ok(Replayed {
-        next: std::num::wrapping_add_u64(at, end as u64 + 1),
-        kind,
-        good: turn.good & (kind < KINDS),
-        log: after,
-    })
 }
 
-// Replays line after line; the number of the first that differs, 0 where none does.
+// Replays line after line; the number of the first that differs, nothing where none does.
 fn replay_all(
     file: &mut File,
     counts: &mut [u64; 13],
     area: &mut [u8],
     one: &mut [u8],
     two: &mut [u8],
-) -> io::Result<u64> {
-    let fresh = seglog::new_log(1, 4096, 4096, &mut *area);
-    let mut log = fresh.log;
+) -> io::Result<Option<u64>> {
+    let mut log = seglog::empty_log(Shape { k: 0, c: 0, m: 0 });
     let mut at: u64 = 0;
-    let mut lines: u64 = 0;
-    while lines < 1000000 {
-        let done = step(&mut *file, at, log, &mut *area, &mut *one, &mut *two)?;
-        lines += 1;
-        if !done.good {
-            return Ok(lines);
-        }
-        if done.next == at {
-            return Ok(0);
-        }
-        at = done.next;
-        log = done.log;
-        let kind = done.kind;
-        if kind < KINDS {
-            counts[kind] = std::num::wrapping_add_u64(counts[kind], 1);
+    for line in 1..=LIMIT {
+        match step(&mut *file, at, log, &mut *area, &mut *one, &mut *two)? {
+            Found::End => return Ok(None),
+            Found::Differs => return Ok(Some(line)),
+            Found::Replayed {
+                kind,
+                next,
+                log: after,
+            } => {
+                at = next;
+                log = after;
+                let i = kind as usize;
+                counts[i] = counts[i].wrapping_add(1);
+            }
         }
     }
-    Ok(lines)
+    Ok(Some(LIMIT))
 }
 
-fn say(rt: &impl Print, bytes: &[u8]) -> io::Result<()> {
-    rt.write_all(bytes)
-}
-
-fn number(rt: &impl Print, v: u64) -> io::Result<()> {
-    rt.print(v)
-}
-
-// The count of one kind, with its name.
-fn counted(rt: &impl Print, counts: &[u64; 13], i: usize, what: &[u8]) -> io::Result<()> {
-    if i < KINDS {
-        number(rt, counts[i])?;
-        say(rt, what)?;
+// A line for each kind, with its count.
+fn report_counts(rt: &impl Print, counts: &[u64; 13]) -> io::Result<()> {
+    for (kind, count) in KINDS.iter().zip(counts) {
+        println!(rt; "{count} {kind}")?;
     }
     Ok(())
 }
 
-fn report_counts(rt: &impl Print, counts: &[u64; 13]) -> io::Result<()> {
-    counted(rt, counts, 0, b" names written\n")?;
-    counted(rt, counts, 1, b" names parsed\n")?;
-    counted(rt, counts, 2, b" deltas decoded\n")?;
-    counted(rt, counts, 3, b" deltas encoded\n")?;
-    counted(rt, counts, 4, b" histories of a log\n")?;
-    counted(rt, counts, 5, b" appends\n")?;
-    counted(rt, counts, 6, b" prunes of the oldest\n")?;
-    counted(rt, counts, 7, b" prunes of the recent\n")?;
-    counted(rt, counts, 8, b" recoveries\n")?;
-    counted(rt, counts, 9, b" pieces of images laid\n")?;
-    counted(rt, counts, 10, b" recoveries from images\n")?;
-    counted(
-        rt,
-        counts,
-        11,
-        b" recoveries the original refuses behind e\n",
-    )?;
-    counted(
-        rt,
-        counts,
-        12,
-        b" newest records the original does not reach\n",
-    )
-}
-
-// The answers of all kinds; that a history begins is none, and a piece that is laid.
+// How many answers there were, of all kinds.
 fn total(counts: &[u64; 13]) -> u64 {
     let mut sum: u64 = 0;
-    let mut i: usize = 0;
-    while i < KINDS {
-        if (i != 4) & (i != 9) {
-            sum = std::num::wrapping_add_u64(sum, counts[i]);
+    for (kind, count) in KINDS.iter().zip(counts) {
+        if kind.is_answer() {
+            sum = sum.wrapping_add(*count);
         }
-        i += 1;
     }
     sum
 }
@@ -229,24 +149,16 @@ fn run(rt: &impl Print, file: &mut File, payload: &mut [u8]) -> io::Result<()> {
     let mut two = [0u8; 65536];
     let differs = replay_all(file, &mut counts, &mut area, payload, &mut two)?;
     report_counts(rt, &counts)?;
-    if differs == 0 {
-        say(rt, b"ok ")?;
-        number(rt, total(&counts))?;
-        say(rt, b" answers replayed\n")
-    } else {
-        say(rt, b"refused, the first line that differs is ")?;
-        number(rt, differs)?;
-        say(rt, b"\n")
+    match differs {
+        None => println!(rt; "ok {} answers replayed", total(&counts)),
+        Some(line) => println!(rt; "refused, the first line that differs is {line}"),
     }
 }
 
 // Opens the file whose path the first argument is, and says why where it cannot. A path that is no UTF-8 text is no path.
 fn open(rt: &HostRuntime) -> io::Result<File> {
     let mut path = [0u8; 4096];
-    let length = match rt.arg(1, &mut path) {
-        Ok(n) => n,
-        Err(_) => 0,
-    };
+    let length = rt.arg(1, &mut path).unwrap_or(0);
     let Ok(name) = str::from_utf8(&path[..length]) else {
         return Err(io::Error::from(io::ErrorKind::InvalidFilename));
     };

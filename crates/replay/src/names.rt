@@ -1,30 +1,26 @@
 // Lines W and P: names written and read.
 // Assumes nothing.
-use crate::fields;
-use segment_filename::{Formatted, Parsed};
+use crate::fields::Line;
 
 // W DD prefix id name
-pub(crate) fn written(line: &[u8], prefix: &mut [u8], name: &mut [u8]) -> bool {
-    let n = fields::bytes(fields::word(line, 2), &mut *prefix);
-    let id = fields::short_hex(fields::word(line, 3));
-    let m = fields::bytes(fields::word(line, 4), &mut *name);
+pub(crate) fn written(line: Line<'_>, prefix: &mut [u8], name: &mut [u8]) -> bool {
+    let prefix = line.bytes(2, prefix);
+    let name = line.bytes(4, name);
     let mut out = [0u8; 4096];
-    let answer = segment_filename::format(slices::front(prefix, n), id, &mut out);
-    let departure = fields::departure(line);
-    let Formatted::Length(size) = answer else {
-        return segment_filename::formatted_number(answer) == departure;
-    };
-    (departure == 0) & fields::same(slices::front(&out, size), slices::front(name, m))
+    let departure = line.departure();
+    match segment_filename::format(prefix, line.short_hex(3), &mut out) {
+        Ok(size) => departure.is_none() && slices::front(&out, size) == name,
+        Err(refusal) => departure == Some(refusal.number()),
+    }
 }
 
 // P DD prefix name NN id
-pub(crate) fn parsed(line: &[u8], prefix: &mut [u8], name: &mut [u8]) -> bool {
-    let n = fields::bytes(fields::word(line, 2), &mut *prefix);
-    let m = fields::bytes(fields::word(line, 3), &mut *name);
-    let answer = segment_filename::parse(slices::front(prefix, n), slices::front(name, m));
-    let wanted = fields::wanted(line, 4);
-    let Parsed::Id(id) = answer else {
-        return segment_filename::parsed_number(answer) == wanted;
-    };
-    (wanted == 0) & (id == fields::short_hex(fields::word(line, 5)))
+pub(crate) fn parsed(line: Line<'_>, prefix: &mut [u8], name: &mut [u8]) -> bool {
+    let prefix = line.bytes(2, prefix);
+    let name = line.bytes(3, name);
+    let wanted = line.wanted(4);
+    match segment_filename::parse(prefix, name) {
+        Ok(id) => wanted.is_none() && id == line.short_hex(5),
+        Err(refusal) => wanted == Some(refusal.number()),
+    }
 }
