@@ -4,6 +4,8 @@ use Prim.Native.Nat.{ℕ, ◌+◌, ◌<◌, ◌≤◌}
 use mathlib.Core.Bool.{Bool, true, false}
 use mathlib.Core.List.{List, [], ◌∷◌, ◌++◌, append_assoc, append-nil}
 use mathlib.Core.Path.{◌≡◌, refl, ap, sym, subst, ◌∙◌}
+use lib.ListN.{length, length-append, length-replicate}
+use native.Mathlib.Omega.{arith}
 use borrow.Author.Tests.{lt-ltb, le-ltb}
 use Rattle.std.specs.Prelude.{Result, Ok, Err}
 use Rattle.lists.specs.Choice.{pick}
@@ -16,7 +18,7 @@ use Rattle.refusal.specs.Refusals.{number, outcome}
 use Rattle.little_endian.specs.LittleEndian.{number_at}
 use Rattle.keys.specs.Sorting.{has, sort_by, clash}
 use Rattle.keys.proofs.Sorting.{clash-middle}
-use Rattle.delta.specs.Table.{row_key, rows_of, table_of, Plain, arranged_of}
+use Rattle.delta.specs.Table.{row_key, rows_of, table_of, Plain, arranged_of, ordered}
 use Rattle.delta.specs.Reading.{Reading.ends, erase_at, reinstate_at, group, reinstates, reading, walk, onward}
 use Rattle.delta.specs.Reading.{decode_outcome, answered, decoded_of, prepend, Reads, WholeRead}
 use Rattle.delta.specs.declared.Row.{Row}
@@ -65,6 +67,7 @@ decoded-read most s xs e q =
 -- an erase group of n rows was read whole, and ended at p
 pub record Erased (most : ℕ) (s : List ℕ) (n p : ℕ) (t : Table) : Type 0 where
   pub same : reading most s ≡ prepend (rows_of t) (reinstates most s n p)
+  pub room : t.count ≤ most
   pub plain : Plain t
 
 -- ---- the reading that an answer belongs to
@@ -80,8 +83,12 @@ module _ (most : ℕ) (s : List ℕ) where
   unfolding prepend
   read-nothing a q t w = record {
     same = q ∙ sym (ap (λ (u : Table). prepend (rows_of u) (ends (outcome a))) w);
+    room = none (ap (λ (u : Table). u.count) w);
     plain = subst (λ (u : Table). Plain u) (sym w) (table-plain []);
   }
+    where
+      none : t.count ≡ 0 → t.count ≤ most
+      none z = omega arith
 
   module _ (n : ℕ) (e : done n ≡ number_at 4 s 0) where
     -- the erase count passes the limit
@@ -89,7 +96,7 @@ module _ (most : ℕ) (s : List ℕ) where
     unfolding reading
     read-over h = rw (sym e, lt-ltb most n h)
 
-    module _ (h : n ≤ most) (before : List Row) (b : before ≡ []) (size k : ℕ) (a : Result ℕ Refusal) (t : Table)
+    module _ (h : n ≤ most) (before : List Row) (b : before ≡ []) (size k : ℕ) (few : k ≤ most) (a : Result ℕ Refusal) (t : Table)
         (g : Reads size k before (group (erase_at s) n 4) a t) where
       first_group : reading most s ≡ prepend before (group (erase_at s) n 4 (λ p. reinstates most s n p))
       unfolding reading prepend
@@ -103,6 +110,7 @@ module _ (most : ℕ) (s : List ℕ) where
       read-erases x c y f = record {
         same = erases ∙ ap (λ (z : Result ℕ Refusal). prepend (rows_of t) (onward (outcome z) (reinstates most s n))) c
             ∙ sym (ap (λ (z : Result ℕ Refusal). prepend (rows_of t) (ends (outcome z))) f);
+        room = omega (arith, g.room);
         plain = g.plain;
       }
 
@@ -110,6 +118,7 @@ module _ (most : ℕ) (s : List ℕ) where
       pub erases-read : (p : ℕ) → a ≡ Ok p → Erased most s n p t
       erases-read p c = record {
         same = erases ∙ ap (λ (z : Result ℕ Refusal). prepend (rows_of t) (onward (outcome z) (reinstates most s n))) c;
+        room = omega (arith, g.room);
         plain = g.plain;
       }
 
@@ -118,6 +127,7 @@ module _ {most : ℕ} {s : List ℕ} {n p : ℕ} {t : Table} (g : Erased most s 
   pub read-cut : (x : Refusal) → refused (number x) ≡ number_at 4 s p → (y : Result ℕ Refusal) → y ≡ Err x → WholeRead most s y t
   read-cut x e y f = record {
     same = g.same ∙ ap (prepend (rows_of t)) cut ∙ sym (ap (λ (z : Result ℕ Refusal). prepend (rows_of t) (ends (outcome z))) f);
+    room = g.room;
     plain = g.plain;
   }
     where
@@ -129,16 +139,18 @@ module _ {most : ℕ} {s : List ℕ} {n p : ℕ} {t : Table} (g : Erased most s 
     pub read-many : most < n + m → WholeRead most s (Err OverLimit) t
     read-many o = record {
       same = g.same ∙ ap (prepend (rows_of t)) (unfold reinstates in rw (sym e, lt-ltb most (n + m) o));
+      room = g.room;
       plain = g.plain;
     }
 
     -- both groups
-    pub read-both : n + m ≤ most → (size k : ℕ) (a : Result ℕ Refusal) (u : Table)
+    pub read-both : n + m ≤ most → (size k : ℕ) → k ≤ most → (a : Result ℕ Refusal) (u : Table)
         → Reads size k (rows_of t) (group (reinstate_at s) m (p + 4)) a u → WholeRead most s a u
-    read-both o size k a u z =
+    read-both o size k few a u z =
         record {
           same = g.same ∙ ap (prepend (rows_of t)) both
               ∙ z.same (λ i. ends (done i)) ∙ ap (prepend (rows_of u)) (last (outcome a));
+          room = omega (arith, z.room);
           plain = z.plain;
         }
       where
@@ -152,14 +164,14 @@ module _ {most : ℕ} {s : List ℕ} {n p : ℕ} {t : Table} (g : Erased most s 
 -- ---- what `decode` answers, by the rows put in order
 
 module _ (most : ℕ) (s : List ℕ) (a : Result ℕ Refusal) (t : Table) (w : WholeRead most s a t)
-    (b : Result Table Refusal) (q : outcome b ≡ arranged_of (rows_of t)) where
+    (b : Result (Unit {0}) Refusal) (u : Table) (q : ordered b u ≡ arranged_of (rows_of t)) where
   whole : decoded_of most s ≡ pick (clash row_key (rows_of t)) (answered (refused 42) (rows_of t)) (answered (outcome a) (rows_of t))
   whole = decoded-read most s (rows_of t) (outcome a) w.same
 
   -- a key twice
   pub decode-twins : (x : Refusal) → b ≡ Err x → (y : Result Decoded Refusal) → y ≡ Err x → decode_outcome y ≡ decoded_of most s
   decode-twins x e y f =
-      ap decode_outcome f ∙ go (clash row_key (rows_of t)) (sym (ap outcome e) ∙ q) ∙ sym whole
+      ap decode_outcome f ∙ go (clash row_key (rows_of t)) (sym (ap (λ (z : Result (Unit {0}) Refusal). ordered z u) e) ∙ q) ∙ sym whole
     where
       go : (c : Bool) → refused (number x) ≡ pick c (refused 42) (done (table_of (sort_by row_key (rows_of t))))
           → record { answer = refused (number x); table = table_of [] }
@@ -167,9 +179,9 @@ module _ (most : ℕ) (s : List ℕ) (a : Result ℕ Refusal) (t : Table) (w : W
       go true h = ap (λ (o : Outcome ℕ). record { answer = o; table = table_of [] }) (cc)
       go false h = refused-is-not-done h
 
-  module _ (u : Table) (e : b ≡ Ok u) where
+  module _ (v : Unit {0}) (e : b ≡ Ok v) where
     once : (clash row_key (rows_of t) ≡ false) × (u ≡ table_of (sort_by row_key (rows_of t)))
-    once = go (clash row_key (rows_of t)) (sym (ap outcome e) ∙ q)
+    once = go (clash row_key (rows_of t)) (sym (ap (λ (z : Result (Unit {0}) Refusal). ordered z u) e) ∙ q)
       where
         go : (c : Bool) → done u ≡ pick c (refused 42) (done (table_of (sort_by row_key (rows_of t))))
             → (c ≡ false) × (u ≡ table_of (sort_by row_key (rows_of t)))
@@ -188,3 +200,10 @@ module _ (most : ℕ) (s : List ℕ) (a : Result ℕ Refusal) (t : Table) (w : W
     decode-good n f =
         (λ i. record { answer = done n; table = once.1 i })
         ∙ sym (decoded ∙ ap (λ (z : Result ℕ Refusal). answered (outcome z) (rows_of t)) f)
+
+-- the array of a table whose rows were read has its 256 rows
+pub whole-long : {s : List ℕ} {a : Result ℕ Refusal} {t : Table} → WholeRead 256 s a t → length t.rows ≡ 256
+whole-long {s} {a} {t} w =
+    let count : t.count ≡ length (rows_of t) = ap (λ (u : Table). u.count) w.plain in
+    let room = w.room in
+    ap (λ (u : Table). length u.rows) w.plain ∙ simp (length-append, length-replicate) (omega arith)

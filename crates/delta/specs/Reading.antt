@@ -107,4 +107,5 @@ pub record Reads (size most : ℕ) (before : List Row) (rest : (ℕ → Reading)
 -- reading both groups: the table has the rows read in full, and the answer is how the reading ended
 pub record WholeRead (most : ℕ) (s : List ℕ) (answer : Result ℕ Refusal) (table : Table) : Type 0 where
   pub same : reading most s ≡ prepend (rows_of table) (ends (outcome answer))
+  pub room : table.count ≤ most
   pub plain : Plain table
