@@ -7,7 +7,7 @@ use Prim.Native.Nat.{ℕ, ◌-◌, ◌*◌, ◌/◌, ◌%◌, ◌≤◌, ◌<◌
 use native.Mathlib.Nat.{mul-le-mul_right, suc-mul}
 use native.Mathlib.Omega.{arith}
 use lib.ListN.{length, take, replicate, length-append}
-use lib.Seq.{take_at, length-take-le}
+use lib.Seq.{take_at}
 use Rattle.lists.specs.Outcome.{Outcome, refused, done}
 use Rattle.lists.proofs.Outcome.{refused-injective, refused-is-not-done, done-injective}
 use Rattle.std.specs.Prelude.{Ok, Err}
@@ -30,7 +30,6 @@ use Rattle.recovery_walk.specs.Rows.{rows_all, pen_of}
 use Rattle.recovery_walk.specs.Scan.{live_count, scan_of, scanned_of, index_of, ScanDid}
 use Rattle.recovery_walk.proofs.RowsIds.{Accepted, scan-accepted, scan-rows}
 use Rattle.recovery.specs.declared.Recovered.{Recovered}
-use Rattle.image_rows.specs.declared.Rows.{Rows}
 use Rattle.image_rows.specs.ImageRows.{rows_inside}
 use Rattle.recovery.specs.Recovery.{recovered, outcome_of, scanned, recovery_answer, recovery_area, recovery_index, RecoveryDid, ScanPre, answered}
 use Rattle.recovery.specs.Keeping.{kept_of, closed_view, ClosePre, CloseDid}
@@ -72,123 +71,115 @@ scan-keeps area k c s e i room rs d gs all pages order some inside ids a =
       head = t.head (λ z. clash z) a.end;
     }
 
--- what the walk asks of an array's rows
-pub walk-asks : (k c m : ℕ) (area : List ℕ) (images-in : Rows) (s e : ℕ) → ScanPre k c m area images-in s e → length images-in.rows ≡ 64
-    → WalkPre area c (take images-in.count images-in.rows)
-walk-asks k c m area images-in s e pre full =
-    let room = roomy-is k c m (length area) pre.roomy in
-    walk-pre area k c (take images-in.count images-in.rows) room.area
-    (omega (arith, length-take-le images-in.count images-in.rows (omega (arith, pre.few)), pre.few)) pre.inside
+-- what the walk asks of sorted rows
+pub walk-asks : (k c m : ℕ) (area : List ℕ) (rs : List ImageRow) (s e : ℕ) → ScanPre k c m area rs s e → WalkPre area c rs
+walk-asks k c m area rs s e pre = walk-pre area k c rs (roomy-is k c m (length area) pre.roomy).area pre.few pre.inside
 
--- the scan of an array's rows
-module _ (k c m : ℕ) (area : List ℕ) (images-in : Rows) (s e : ℕ) (index : List ℕ) (pre : ScanPre k c m area images-in s e)
-    (full : length images-in.rows ≡ 64) (index' : List ℕ) where
-  abbrev n : ℕ
-  n = images-in.count
+-- the scan of sorted rows
+module _ (k c m : ℕ) (area : List ℕ) (rs : List ImageRow) (s e : ℕ) (index : List ℕ) (pre : ScanPre k c m area rs s e) (index' : List ℕ)
+  where
+    abbrev n : ℕ
+    n = length rs
 
-  abbrev rs : List ImageRow
-  rs = take images-in.count images-in.rows
+    abbrev comes : Outcome Found
+    comes = scan_of area c s e rs (length index)
 
-  abbrev comes : Outcome Found
-  comes = scan_of area c s e rs (length index)
-
-  -- 16 to 23
-  pub did-fault : (r : Refusal) → ScanDid area c s e rs index index' (Err r)
-      → RecoveryDid (scanned k c m area rs s e (length index)) area index (Err r) area index'
-  unfolding index_of
-  did-fault r did = by comes refl
-    where
-      by : (o : Outcome Found) → comes ≡ o → RecoveryDid (scanned k c m area rs s e (length index)) area index (Err r) area index'
-      by (refused j) q =
-          let number_is : number r ≡ j = refused-injective (did.answer ∙ ap scanned_of q) in
-          let stays : index' ≡ index = did.words ∙ ap (λ (o : Outcome Found). index_of (rows_all area c s e rs pen_of) o index) q in
-          subst (λ (z : List ℕ). RecoveryDid (scanned k c m area rs s e (length index)) area index (Err r) area z) (sym stays)
-          (did-refused (scanned k c m area rs s e (length index)) area index r
-          (ap (outcome_of k c m area s e rs) q ∙ ap (λ (x : ℕ). refused x) (sym number_is)))
-      by (done a) q = refused-is-not-done (did.answer ∙ ap scanned_of q)
-
-  -- a scan without a fault
-  module _ (r : Scanned) (did : ScanDid area c s e rs index index' (Ok r)) where
-    pub record NoFault : Type 0 where
-      pub gs : List Segment
-      pub out : comes ≡ walked r.scan gs
-      pub segs : r.segs ≡ entries_of gs
-
-    pub no-fault : NoFault
-    no-fault = by comes refl
-      where
-        by : (o : Outcome Found) → comes ≡ o → NoFault
-        by (refused j) q = refused-is-not-done (sym (did.answer ∙ ap scanned_of q))
-        by (done (d, gs)) q =
-            let same = done-injective (did.answer ∙ ap scanned_of q) in
-            record {
-              gs = gs;
-              out = q ∙ ap (λ (y : Scan). walked y gs) (sym (ap (λ (y : Scanned). y.scan) same));
-              segs = ap (λ (y : Scanned). y.segs) same;
-            }
-
-    abbrev w : NoFault
-    w = no-fault
-
-    went : Accepted s e (length index) (images area c s e rs start_of) r.scan w.gs
-    unfolding scan_of
-    went = scan-accepted s e (length index) (images area c s e rs start_of) r.scan w.gs w.out
-
-    -- the segments that were found are the first n entries
-    listed : take n r.segs ≡ w.gs
-    listed =
-        let long : length w.gs ≡ n =
-        slots_length rs w.gs (images-slots area c s e rs start_of r.scan w.gs went.walk)
-        ∙ length-take-le n images-in.rows (omega (arith, pre.few)) in
-        ap (take n) w.segs ∙ take_at w.gs (replicate (64 - length w.gs) no_segment) n long
-
-    -- what closing asks
-    pub close-pre : ClosePre c s e n r.scan.end_of_e area (kept_of s e (take n r.segs))
-    close-pre =
-        let room = roomy-is k c m (length area) pre.roomy in
-        let ids = ids-are rs pre.low pre.apart in
-        let keeps = scan-keeps area k c s e ids.i (length index) rs r.scan w.gs room.area room.sizes.whole-pages
-        pre.order pre.some pre.inside ids.from went in
-        let cut = keeps.whole.cut in
-        let head : head_of (kept_of s e w.gs) ≡ cut.g = ap head_of cut.is ∙ head-snoc cut.hs cut.g in
-        let slot : (head_of (kept_of s e w.gs)).slot < k = omega (arith, ap (λ (z : Segment). z.slot) head, cut.good.slot) in
-        subst (λ (l : List Segment). ClosePre c s e n r.scan.end_of_e area (kept_of s e l)) (sym listed)
-        (record {
-          few = pre.few;
-          range = record { some = omega (arith, pre.some); order = pre.order };
-          some = omega (arith, ap length cut.is, length-append cut.hs (cut.g ∷ []));
-          slot = slot-inside k c (head_of (kept_of s e w.gs)).slot (length area) slot room.area;
-          end = keeps.head.fits;
-        })
-
-    -- accepted: what closing did is what recovery says
-    pub did-close : (x : Recovered) (area' : List ℕ)
-        → CloseDid k c m s e r.scan.start_of_e r.scan.end_of_e (kept_of s e (take n r.segs)) area area' x
-        → RecoveryDid (scanned k c m area rs s e (length index)) area index (Ok x) area' index'
+    -- 16 to 23
+    pub did-fault : (r : Refusal) → ScanDid area c s e rs index index' (Err r)
+        → RecoveryDid (scanned k c m area rs s e (length index)) area index (Err r) area index'
     unfolding index_of
-    did-close x area' closed =
-        let words : List ℕ = rows_all area c s e rs pen_of in
-        let done : scanned k c m area rs s e (length index)
-        ≡ recovered (closed_view k c m s e r.scan.start_of_e r.scan.end_of_e (kept_of s e w.gs))
-        (padded_to c area (head_of (kept_of s e w.gs)) r.scan.end_of_e)
-        words =
-        ap (outcome_of k c m area s e rs) w.out in
-        let live : live_count s e ≡ length words / 4 =
-        let rows = scan-rows area c s e rs r.scan w.gs (omega (arith, pre.some)) went.walk went.start went.end in
-        omega (arith, rows.count) in
-        record {
-          answer = ap (λ (y : Recovered). answered (Ok y)) closed.answer
-              ∙ ap (λ (l : List Segment). record {
-                refusal = 0;
-                rows = live_count s e;
-                log = log_of (closed_view k c m s e r.scan.start_of_e r.scan.end_of_e (kept_of s e l));
-              }) listed
-              ∙ ap (λ (y : ℕ). record {
-                refusal = 0;
-                rows = y;
-                log = log_of (closed_view k c m s e r.scan.start_of_e r.scan.end_of_e (kept_of s e w.gs));
-              }) live ∙ sym (ap recovery_answer done);
-          bytes = closed.bytes ∙ ap (λ (l : List Segment). padded_to c area (head_of (kept_of s e l)) r.scan.end_of_e) listed
-              ∙ sym (ap (recovery_area area) done);
-          words = did.words ∙ ap (λ (o : Outcome Found). index_of words o index) w.out ∙ sym (ap (recovery_index index) done);
-        }
+    did-fault r did = by comes refl
+      where
+        by : (o : Outcome Found) → comes ≡ o → RecoveryDid (scanned k c m area rs s e (length index)) area index (Err r) area index'
+        by (refused j) q =
+            let number_is : number r ≡ j = refused-injective (did.answer ∙ ap scanned_of q) in
+            let stays : index' ≡ index = did.words ∙ ap (λ (o : Outcome Found). index_of (rows_all area c s e rs pen_of) o index) q in
+            subst (λ (z : List ℕ). RecoveryDid (scanned k c m area rs s e (length index)) area index (Err r) area z) (sym stays)
+            (did-refused (scanned k c m area rs s e (length index)) area index r
+            (ap (outcome_of k c m area s e rs) q ∙ ap (λ (x : ℕ). refused x) (sym number_is)))
+        by (done a) q = refused-is-not-done (did.answer ∙ ap scanned_of q)
+
+    -- a scan without a fault
+    module _ (r : Scanned) (did : ScanDid area c s e rs index index' (Ok r)) where
+      pub record NoFault : Type 0 where
+        pub gs : List Segment
+        pub out : comes ≡ walked r.scan gs
+        pub segs : r.segs ≡ entries_of gs
+
+      pub no-fault : NoFault
+      no-fault = by comes refl
+        where
+          by : (o : Outcome Found) → comes ≡ o → NoFault
+          by (refused j) q = refused-is-not-done (sym (did.answer ∙ ap scanned_of q))
+          by (done (d, gs)) q =
+              let same = done-injective (did.answer ∙ ap scanned_of q) in
+              record {
+                gs = gs;
+                out = q ∙ ap (λ (y : Scan). walked y gs) (sym (ap (λ (y : Scanned). y.scan) same));
+                segs = ap (λ (y : Scanned). y.segs) same;
+              }
+
+      abbrev w : NoFault
+      w = no-fault
+
+      went : Accepted s e (length index) (images area c s e rs start_of) r.scan w.gs
+      unfolding scan_of
+      went = scan-accepted s e (length index) (images area c s e rs start_of) r.scan w.gs w.out
+
+      -- the segments that were found are the first n entries
+      listed : take n r.segs ≡ w.gs
+      listed =
+          let long : length w.gs ≡ n =
+          slots_length rs w.gs (images-slots area c s e rs start_of r.scan w.gs went.walk) in
+          ap (take n) w.segs ∙ take_at w.gs (replicate (64 - length w.gs) no_segment) n long
+
+      -- what closing asks
+      pub close-pre : ClosePre c s e n r.scan.end_of_e area (kept_of s e (take n r.segs))
+      close-pre =
+          let room = roomy-is k c m (length area) pre.roomy in
+          let ids = ids-are rs pre.low pre.apart in
+          let keeps = scan-keeps area k c s e ids.i (length index) rs r.scan w.gs room.area room.sizes.whole-pages
+          pre.order pre.some pre.inside ids.from went in
+          let cut = keeps.whole.cut in
+          let head : head_of (kept_of s e w.gs) ≡ cut.g = ap head_of cut.is ∙ head-snoc cut.hs cut.g in
+          let slot : (head_of (kept_of s e w.gs)).slot < k = omega (arith, ap (λ (z : Segment). z.slot) head, cut.good.slot) in
+          subst (λ (l : List Segment). ClosePre c s e n r.scan.end_of_e area (kept_of s e l)) (sym listed)
+          (record {
+            few = pre.few;
+            range = record { some = omega (arith, pre.some); order = pre.order };
+            some = omega (arith, ap length cut.is, length-append cut.hs (cut.g ∷ []));
+            slot = slot-inside k c (head_of (kept_of s e w.gs)).slot (length area) slot room.area;
+            end = keeps.head.fits;
+          })
+
+      -- accepted: what closing did is what recovery says
+      pub did-close : (x : Recovered) (area' : List ℕ)
+          → CloseDid k c m s e r.scan.start_of_e r.scan.end_of_e (kept_of s e (take n r.segs)) area area' x
+          → RecoveryDid (scanned k c m area rs s e (length index)) area index (Ok x) area' index'
+      unfolding index_of
+      did-close x area' closed =
+          let words : List ℕ = rows_all area c s e rs pen_of in
+          let done : scanned k c m area rs s e (length index)
+          ≡ recovered (closed_view k c m s e r.scan.start_of_e r.scan.end_of_e (kept_of s e w.gs))
+          (padded_to c area (head_of (kept_of s e w.gs)) r.scan.end_of_e)
+          words =
+          ap (outcome_of k c m area s e rs) w.out in
+          let live : live_count s e ≡ length words / 4 =
+          let rows = scan-rows area c s e rs r.scan w.gs (omega (arith, pre.some)) went.walk went.start went.end in
+          omega (arith, rows.count) in
+          record {
+            answer = ap (λ (y : Recovered). answered (Ok y)) closed.answer
+                ∙ ap (λ (l : List Segment). record {
+                  refusal = 0;
+                  rows = live_count s e;
+                  log = log_of (closed_view k c m s e r.scan.start_of_e r.scan.end_of_e (kept_of s e l));
+                }) listed
+                ∙ ap (λ (y : ℕ). record {
+                  refusal = 0;
+                  rows = y;
+                  log = log_of (closed_view k c m s e r.scan.start_of_e r.scan.end_of_e (kept_of s e w.gs));
+                }) live ∙ sym (ap recovery_answer done);
+            bytes = closed.bytes ∙ ap (λ (l : List Segment). padded_to c area (head_of (kept_of s e l)) r.scan.end_of_e) listed
+                ∙ sym (ap (recovery_area area) done);
+            words = did.words ∙ ap (λ (o : Outcome Found). index_of words o index) w.out ∙ sym (ap (recovery_index index) done);
+          }

@@ -20,7 +20,7 @@ use Rattle.image_rows.specs.declared.Rows.{Rows}
 use Rattle.image_rows.specs.ImageRows.{sort_rows, rows_inside, rows_fit, lowest_zero, one_apart}
 use Rattle.image_rows.specs.Rows.{listed_of, sorted_of}
 use Rattle.image_rows.specs.Arrange.{arranged_of}
-use Rattle.image_rows.proofs.ImageRows.{fit_is, sort-inside}
+use Rattle.image_rows.proofs.ImageRows.{fit_is, sort-inside, sort-length}
 use Rattle.image_rows.proofs.RowsListed.{fit-few, sorted-is}
 use Rattle.image_rows.proofs.ArrangeWays.{Took, arranged-either}
 use Rattle.recovery.specs.declared.Recovered.{Recovered}
@@ -138,18 +138,22 @@ module _ (k c m : ℕ) (area : List ℕ) (images : Rows) (s e room : ℕ) (roomy
       (λ w q. record { took = w; is = done-injective q })
 
   module _ (sorted : Rows) (p : Passed sorted) (long : length images.rows ≡ 64) where
+    -- there are 64 at most
+    pub sorted-few : sorted.count ≤ 64
+    sorted-few = omega (arith, fit-few k c images long p.took.fit, ap (λ (z : Rows). z.count) p.is)
+
     -- the rows of the array that the scan is given
     pub rows-sorted : take sorted.count sorted.rows ≡ sort_rows (listed_of images)
     rows-sorted = sorted-is images sorted p.is (fit-few k c images long p.took.fit) long
 
     -- what the scan asks
-    pub scan-asks : (s ≡ 0 → ⊥) → ScanPre k c m area sorted s e
+    pub scan-asks : (s ≡ 0 → ⊥) → ScanPre k c m area (take sorted.count sorted.rows) s e
     scan-asks some =
         record {
           roomy = roomy;
           order = order;
           some = some;
-          few = omega (arith, fit-few k c images long p.took.fit, ap (λ (z : Rows). z.count) p.is);
+          few = omega (arith, ap length rows-sorted, sort-length (listed_of images), (fit_is k c (listed_of images) p.took.fit).few);
           inside = ap (rows_inside k c) rows-sorted
               ∙ sort-inside k c (listed_of images) (fit_is k c (listed_of images) p.took.fit).inside;
           low = ap lowest_zero rows-sorted ∙ p.took.low;

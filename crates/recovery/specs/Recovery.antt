@@ -1,5 +1,5 @@
 -- Recovery, as document 01 says it: 1, 11 to 15, the scan (16 to 23), and what an accepted scan leaves. Assumes nothing.
-use Rattle.std.specs.Prelude.{◌≡◌, List, [], ◌∷◌, ◌++◌, Bool, true, false, ◌&&◌, ◌||◌, not, ℕ, ◌/◌, ◌≤◌, length, take, drop, ltb, eqb, Result, Ok, Err}
+use Rattle.std.specs.Prelude.{◌≡◌, List, [], ◌∷◌, ◌++◌, Bool, true, false, ◌&&◌, ◌||◌, not, ℕ, ◌/◌, ◌≤◌, length, drop, ltb, eqb, Result, Ok, Err}
 use Rattle.lists.specs.Choice.{◌⇒◌, first}
 use Rattle.lists.specs.Outcome.{Outcome, refused, done, either, kept}
 use Rattle.refusal.specs.declared.Refusal.{Refusal}
@@ -14,7 +14,6 @@ use Rattle.recovery_walk.specs.Images.{Found}
 use Rattle.recovery_walk.specs.Rows.{rows_all, pen_of}
 use Rattle.recovery_walk.specs.Scan.{scan_of}
 use Rattle.recovery.specs.declared.Recovered.{Recovered}
-use Rattle.image_rows.specs.declared.Rows.{Rows}
 use Rattle.image_rows.specs.ImageRows.{sort_rows, rows_inside, rows_fit, lowest_zero, one_apart}
 use Rattle.recovery.specs.Keeping.{kept_of}
 
@@ -105,12 +104,12 @@ pub record RecoveryDid (o : Recovery) (area index : List ℕ) (r : Result Recove
 
 -- ---- the code's way to the scan
 
--- what the scan of the first rows of an array asks: 1 and 11 to 15 were not met, and the range is not (0, 0)
-pub record ScanPre (k c m : ℕ) (area : List ℕ) (images : Rows) (s e : ℕ) : Type 0 where
+-- what the scan of sorted rows asks: 1 and 11 to 15 were not met, and the range is not (0, 0)
+pub record ScanPre (k c m : ℕ) (area : List ℕ) (rows : List ImageRow) (s e : ℕ) : Type 0 where
   pub roomy : roomy_of k c m (length area) ≡ true
   pub order : s ≤ e
   pub some : s ≡ 0 → ⊥
-  pub few : images.count ≤ 64
-  pub inside : rows_inside k c (take images.count images.rows) ≡ true
-  pub low : lowest_zero (take images.count images.rows) ≡ false
-  pub apart : one_apart (take images.count images.rows) ≡ true
+  pub few : length rows ≤ 64
+  pub inside : rows_inside k c rows ≡ true
+  pub low : lowest_zero rows ≡ false
+  pub apart : one_apart rows ≡ true

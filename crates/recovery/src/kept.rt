@@ -29,16 +29,18 @@ fn keep(range: Range, found: &[Segment]) -> Kept
     requires { length found.now ≤ 64 }
     ensures { result ≡ kept_in range.s range.e found.now }
 {
-    let mut segs = [segment::no_segment(); 64];
-    let mut count = 0;
+    let mut kept = Kept {
+        count: 0,
+        segs: [segment::no_segment(); 64],
+    };
     for g in found {
         if !holds_live(range, *g) {
             continue;
         }
-        segs[count] = *g;
-        count += 1;
+        kept.segs[kept.count] = *g;
+        kept.count += 1;
     }
-    Kept { count, segs }
+    kept
 }
 
 // The log of the kept segments of the first `count` that were found, the last one closed at e.
@@ -55,23 +57,21 @@ pub(crate) fn close(
 {
     let start = found.scan.start_of_e;
     let end = found.scan.end_of_e;
-    let kept = keep(range, &found.segs[..count]);
+    let mut kept = keep(range, &found.segs[..count]);
     let at = kept.count - 1;
     let head = kept.segs[at];
     segment::truncate(area, shape.c, head.slot, head.size, end);
-    let mut segs = kept.segs;
-    segs[at] = segment::ended_at(head, range.e, start, end);
-    let log = Log {
-        k: shape.k,
-        c: shape.c,
-        m: shape.m,
-        start: range.s,
-        end: range.e,
-        count: at + 1,
-        segs,
-    };
+    kept.segs[at] = segment::ended_at(head, range.e, start, end);
     Recovered {
         rows: range.e - range.s + 1,
-        log,
+        log: Log {
+            k: shape.k,
+            c: shape.c,
+            m: shape.m,
+            start: range.s,
+            end: range.e,
+            count: at + 1,
+            segs: kept.segs,
+        },
     }
 }

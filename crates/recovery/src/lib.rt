@@ -2,7 +2,7 @@
 // The image rows are read once, into an array by value (`read_rows`); `recover` and everything below it work on that.
 #![tactic(auto)]
 
-ghost use Rattle.std.specs.Prelude.{◌≡◌, length, take};
+ghost use Rattle.std.specs.Prelude.{◌≡◌, length};
 ghost use Rattle.image_rows.specs.Rows.{rows_of, listed_of};
 ghost use Rattle.recovery.specs.Recovery.{scanned, one_zero, recovery_of, RecoveryDid, ScanPre};
 
@@ -43,24 +43,17 @@ pub fn read_rows(rows: &[ImageRow]) -> Rows
 fn scan(
     shape: Shape,
     area: &mut [u8],
-    sorted: Rows,
+    rows: &[ImageRow],
     range: Range,
     index: &mut [u64],
 ) -> Result<Recovered, Refusal>
-    requires { ScanPre shape.k shape.c shape.m area.old sorted range.s range.e }
+    requires { ScanPre shape.k shape.c shape.m area.old rows.now range.s range.e }
     ensures { RecoveryDid
-        (scanned shape.k shape.c shape.m area.old (take sorted.count sorted.rows) range.s range.e (length index.old))
+        (scanned shape.k shape.c shape.m area.old rows.now range.s range.e (length index.old))
         area.old index.old result area.new index.new }
 {
-    let count = sorted.count;
-    let found = recovery_walk::scan_images(
-        &area[..],
-        shape.c,
-        &sorted.rows[..count],
-        range,
-        index,
-    )?;
-    Ok(kept::close(shape, area, range, count, found))
+    let found = recovery_walk::scan_images(&area[..], shape.c, rows, range, index)?;
+    Ok(kept::close(shape, area, range, rows.len(), found))
 }
 
 // Whether exactly one end of the range is 0.
@@ -94,8 +87,10 @@ pub fn recover(
     }
     let sorted = image_rows::arrange(shape.k, shape.c, rows)?;
     if range.s == 0 {
-        let log = seglog::empty_log(shape);
-        return Ok(Recovered { rows: 0, log });
+        return Ok(Recovered {
+            rows: 0,
+            log: seglog::empty_log(shape),
+        });
     }
-    scan(shape, area, sorted, range, index)
+    scan(shape, area, &sorted.rows[..sorted.count], range, index)
 }

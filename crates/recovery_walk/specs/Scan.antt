@@ -1,12 +1,14 @@
 -- What a scan of the sorted rows' images comes to: 16 to 20 from the walk, then 21, 22 and 23; and the index afterwards.
 -- Assumes nothing.
-use Rattle.std.specs.Prelude.{◌≡◌, List, [], ◌∷◌, ◌++◌, not, ℕ, ◌+◌, ◌-◌, ◌*◌, ◌≤◌, ◌<◌, length, drop, replicate, ltb, Result}
+use Rattle.std.specs.Prelude.{◌≡◌, List, [], ◌∷◌, ◌++◌, not, ℕ, ◌+◌, ◌-◌, ◌*◌, ◌≤◌, ◌<◌, length, drop, replicate, ltb, Result, Ok, Err}
 use Rattle.lists.specs.Choice.{◌⇒◌, first}
 use Rattle.lists.specs.Outcome.{Outcome, refused, done, either, kept}
 use Rattle.refusal.specs.declared.Refusal.{Refusal}
-use Rattle.refusal.specs.Refusals.{outcome}
+use Rattle.refusal.specs.Refusals.{number, outcome}
 use Rattle.segment.specs.Segment.{no_segment}
+use Rattle.segment.specs.declared.Segment.{Segment}
 use Rattle.segment.specs.declared.ImageRow.{ImageRow}
+use Rattle.walk.specs.declared.Scan.{Scan}
 use Rattle.walk.specs.Judging.{start_of}
 use Rattle.recovery_walk.specs.declared.Scanned.{Scanned}
 use Rattle.recovery_walk.specs.Images.{Found, images}
@@ -41,6 +43,11 @@ entries_of a = record { scan = a.0; segs = a.1 ++ replicate (64 - length a.1) no
 -- the code's answer
 abbrev pub scanned_of : Outcome Found → Outcome Scanned
 scanned_of o = either refused (λ a. done (entries_of a)) o
+
+-- the first pass's answer, with what the entries hold
+abbrev pub seen_in : List Segment → Result Scan Refusal → Outcome Scanned
+seen_in gs (Ok w) = done (record { scan = w; segs = gs })
+seen_in gs (Err r) = refused (number r)
 
 -- the index afterwards: untouched by a refusal; else the words, and "later words of the index keep their content"
 unfoldable pub index_of : List ℕ → Outcome Found → List ℕ → List ℕ

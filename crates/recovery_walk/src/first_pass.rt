@@ -1,12 +1,11 @@
 // The first pass, which reads and decides. Nothing of the area but headers is read, and none behind e's record: from there on `next_image`
 // tells no gap and the walk of an image ends at once, so a later row only gives its segment, without records.
-ghost use Rattle.std.specs.Prelude.{◌≡◌};
-ghost use Rattle.refusal.specs.Refusals.{outcome};
+ghost use Rattle.std.specs.Prelude.{◌≡◌, replicate};
+ghost use Rattle.segment.specs.Segment.{no_segment};
 ghost use Rattle.walk.specs.Judging.{start_of};
 ghost use Rattle.recovery_walk.specs.Images.{filled_of, images, WalkPre};
-ghost use Rattle.recovery_walk.specs.Scan.{scanned_of};
+ghost use Rattle.recovery_walk.specs.Scan.{scanned_of, seen_in};
 
-use crate::Scanned;
 use refusal::Refusal;
 use segment::{ImageRow, Segment};
 use walk::{Range, Scan};
@@ -25,17 +24,19 @@ fn filled(row: ImageRow, state: Scan) -> Segment
     }
 }
 
-// The images of the rows, in slots of c bytes, up to the first fault.
+// The images of the rows, in slots of c bytes, up to the first fault: the last state, and the segments in the lent entries. They are lent
+// since a copy of them would take more of the stack than the C interface's header says (tests/abi/stack.c).
 pub(crate) fn walk_images(
     area: &[u8],
     c: u64,
     rows: &[ImageRow],
     range: Range,
-) -> Result<Scanned, Refusal>
-    requires { WalkPre area.now c rows.now }
-    ensures { outcome result ≡ scanned_of (images area.now c range.s range.e rows.now start_of) }
+    segs: &mut [Segment],
+) -> Result<Scan, Refusal>
+    requires walk_pre { WalkPre area.now c rows.now }
+    requires blank { segs.old ≡ replicate 64 no_segment }
+    ensures { seen_in segs.new result ≡ scanned_of (images area.now c range.s range.e rows.now start_of) }
 {
-    let mut segs = [segment::no_segment(); 64];
     let mut scan = walk::start();
     'images: for (i, row) in rows.iter().enumerate() {
         let front = walk::next_image(scan, row.size)?;
@@ -47,5 +48,5 @@ pub(crate) fn walk_images(
         }
         segs[i] = filled(*row, scan);
     }
-    Ok(Scanned { scan, segs })
+    Ok(scan)
 }

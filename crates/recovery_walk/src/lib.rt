@@ -33,11 +33,12 @@ pub fn scan_images(
     requires range_pre { RangePre range.s range.e }
     ensures { ScanDid area.now c range.s range.e rows.now index.old index.new result }
 {
-    let found = first_pass::walk_images(area, c, rows, range)?;
-    if !found.scan.found_s {
+    let mut segs = [segment::no_segment(); 64];
+    let found = first_pass::walk_images(area, c, rows, range, &mut segs)?;
+    if !found.found_s {
         return Err(Refusal::StartNotFound);
     }
-    if !found.scan.found_e {
+    if !found.found_e {
         return Err(Refusal::EndNotFound);
     }
     let words = index.len() as u64;
@@ -46,5 +47,5 @@ pub fn scan_images(
         return Err(Refusal::IndexShort);
     }
     second_pass::write_rows(area, c, rows, range, index);
-    Ok(found)
+    Ok(Scanned { scan: found, segs })
 }

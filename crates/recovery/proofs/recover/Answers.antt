@@ -15,7 +15,7 @@ use Rattle.image_rows.specs.Rows.{listed_of}
 use Rattle.recovery.specs.declared.Recovered.{Recovered}
 use Rattle.recovery.specs.Recovery.{one_zero, recovery_of, RecoveryDid}
 use Rattle.recovery.proofs.RecoveryWays.{recovery-refuses-1, recovery-refuses-11, recovery-refuses-12, rows-refused, rows-taken}
-use Rattle.recovery.proofs.RecoveryWays.{rows-sorted, scan-asks, recovery-empty, recovery-scans, did-refused, did-empty, did-scan}
+use Rattle.recovery.proofs.RecoveryWays.{rows-sorted, sorted-few, scan-asks, recovery-empty, recovery-scans, did-refused, did-empty, did-scan}
 use Rattle.recovery.proofs.recover.Goals as goal
 
 pub returns-then-not-sizes_fit : goal.returns-then-not-sizes_fit
@@ -51,8 +51,17 @@ returns-then-range-eq0 c =
     let roomy : roomy_of a.shape.k a.shape.c a.shape.m (length a.area.now) ≡ true = sym c.sizes_fit.ensures ∙ c.if-not-sizes_fit.false in
     let range : one_zero a.range.s a.range.e ≡ false = sym c.one_zero.ensures ∙ c.if-one_zero.false in
     let p = rows-taken _ _ _ _ a.rows _ _ (length a.index.now) roomy range c.if-range.false _ (ap outcome (sym c.in_ok-sorted.was) ∙ c.arrange.ensures) in
-    did-empty _ _ _ _ _ _ _ (ap (λ (l : Log). record { rows = 0; log = l }) c.empty_log-log.ensures)
+    did-empty _ _ _ _ _ _ _ (ap (λ (l : Log). record { rows = 0; log = l }) c.empty_log.ensures)
     (recovery-empty _ _ _ _ _ _ _ _ roomy range c.if-range.false p.took.fit p.took.low p.took.apart c.if-range-eq0.true)
+
+pub shared_ref_as_front-scan : goal.shared_ref_as_front-scan
+shared_ref_as_front-scan c =
+    let a = c.args in
+    let full : length a.rows.rows ≡ 64 = search (rules, unmapped) in
+    let roomy : roomy_of a.shape.k a.shape.c a.shape.m (length a.area.now) ≡ true = sym c.sizes_fit.ensures ∙ c.if-not-sizes_fit.false in
+    let range : one_zero a.range.s a.range.e ≡ false = sym c.one_zero.ensures ∙ c.if-one_zero.false in
+    let p = rows-taken _ _ _ _ a.rows _ _ (length a.index.now) roomy range c.if-range.false _ (ap outcome (sym c.in_ok-sorted.was) ∙ c.arrange.ensures) in
+    sorted-few _ _ _ _ _ _ _ _ roomy range c.if-range.false _ p full
 
 pub scan-requires : goal.scan-requires
 scan-requires c =

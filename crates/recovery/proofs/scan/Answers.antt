@@ -1,9 +1,7 @@
 -- `scan` meets its contract: what the scan tells is enough to close the log, by the laws of proofs/RecoveryScan.antt. Assumes nothing.
-use mathlib.Core.Path.{◌≡◌, sym, subst}
-use lib.ListN.{length, take}
-use borrow.Author.Rules.{rules}
+use mathlib.Core.Path.{sym, subst}
+use lib.ListN.{length}
 use Rattle.std.specs.Prelude.{Result}
-use Rattle.lists.proofs.Arrays.{unmapped}
 use Rattle.lists.proofs.Outcome.{handed-on}
 use Rattle.refusal.specs.declared.Refusal.{Refusal}
 use Rattle.recovery_walk.specs.declared.Scanned.{Scanned}
@@ -15,36 +13,29 @@ use Rattle.recovery.proofs.scan.Goals as goal
 
 pub scan_images-requires-clause-walk_pre : goal.scan_images-requires-clause-walk_pre
 scan_images-requires-clause-walk_pre c =
-    let full : length c.args.sorted.rows ≡ 64 = search (rules, unmapped) in
-    walk-asks _ _ c.args.shape.m _ c.args.sorted _ _ c.requires full
+    walk-asks _ _ c.args.shape.m _ _ _ _ c.requires
 
 pub returns-in_err-found : goal.returns-in_err-found
 returns-in_err-found c =
     let a = c.args in
-    let full : length a.sorted.rows ≡ 64 = search (rules, unmapped) in
     let e = c.in_err-found.field-0.0 in
-    let rs = take a.sorted.count a.sorted.rows in
-    let did = subst (λ (r : Result Scanned Refusal). ScanDid a.area.now a.shape.c a.range.s a.range.e rs a.index.now c.scan_images.new.index r)
+    let did = subst (λ (r : Result Scanned Refusal). ScanDid a.area.now a.shape.c a.range.s a.range.e a.rows.now a.index.now c.scan_images.new.index r)
     c.in_err-found.was c.scan_images.ensures in
     subst (λ (r : Result Recovered Refusal). RecoveryDid
-    (scanned a.shape.k a.shape.c a.shape.m a.area.now rs a.range.s a.range.e (length a.index.now)) a.area.now a.index.now r a.area.now c.scan_images.new.index)
+    (scanned a.shape.k a.shape.c a.shape.m a.area.now a.rows.now a.range.s a.range.e (length a.index.now)) a.area.now a.index.now r a.area.now c.scan_images.new.index)
     (sym (handed-on c.from_residual.result e c.from_residual.ensures.1))
-    (did-fault _ _ _ _ _ _ _ _ c.requires full _ e did)
+    (did-fault _ _ _ _ _ _ _ _ c.requires _ e did)
 
 pub close-requires : goal.close-requires
 close-requires c =
     let a = c.args in
-    let full : length a.sorted.rows ≡ 64 = search (rules, unmapped) in
-    let rs = take a.sorted.count a.sorted.rows in
-    let did = subst (λ (r : Result Scanned Refusal). ScanDid a.area.now a.shape.c a.range.s a.range.e rs a.index.now c.scan_images.new.index r)
+    let did = subst (λ (r : Result Scanned Refusal). ScanDid a.area.now a.shape.c a.range.s a.range.e a.rows.now a.index.now c.scan_images.new.index r)
     c.in_ok-found.was c.scan_images.ensures in
-    close-pre _ _ a.shape.m _ _ _ _ _ c.requires full _ _ did
+    close-pre _ _ a.shape.m _ _ _ _ _ c.requires _ _ did
 
 pub returns : goal.returns
 returns c =
     let a = c.args in
-    let full : length a.sorted.rows ≡ 64 = search (rules, unmapped) in
-    let rs = take a.sorted.count a.sorted.rows in
-    let did = subst (λ (r : Result Scanned Refusal). ScanDid a.area.now a.shape.c a.range.s a.range.e rs a.index.now c.scan_images.new.index r)
+    let did = subst (λ (r : Result Scanned Refusal). ScanDid a.area.now a.shape.c a.range.s a.range.e a.rows.now a.index.now c.scan_images.new.index r)
     c.in_ok-found.was c.scan_images.ensures in
-    did-close _ _ _ _ _ _ _ _ c.requires full _ _ did _ _ c.close.ensures
+    did-close _ _ _ _ _ _ _ _ c.requires _ _ did _ _ c.close.ensures

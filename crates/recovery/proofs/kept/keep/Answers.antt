@@ -4,7 +4,7 @@ use Rattle.recovery.proofs.Keeping.{keep-start, keep-dead, keep-live}
 use Rattle.recovery.proofs.kept.keep.Goals as goal
 
 pub loop-g-init : goal.loop-g-init
-loop-g-init c = rw c.no_segment-segs.ensures (keep-start _ _ _)
+loop-g-init c = rw c.no_segment.ensures (keep-start _ _ _)
 
 pub loop-g-preserved-then-not-holds_live : goal.loop-g-preserved-then-not-holds_live
 loop-g-preserved-then-not-holds_live c =

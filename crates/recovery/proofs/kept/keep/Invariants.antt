@@ -3,4 +3,4 @@ use Rattle.recovery.proofs.Keeping.{AtKeep}
 use Rattle.recovery.proofs.kept.keep.Given as given
 
 abbrev pub invariant-loop-g : given.invariant-loop-g
-invariant-loop-g l = AtKeep l.range.s l.range.e l.found l.segs l.count l.g-index
+invariant-loop-g l = AtKeep l.range.s l.range.e l.found l.kept.segs l.kept.count l.g-index
