@@ -33,7 +33,8 @@ pub fn scan_images(
     requires range_pre { RangePre range.s range.e }
     ensures { ScanDid area.now c range.s range.e rows.now index.old index.new result }
 {
-    let mut segs = [segment::no_segment(); 64];
+    let none = segment::no_segment();
+    let mut segs = [none; 64];
     let found = first_pass::walk_images(area, c, rows, range, &mut segs)?;
     if !found.found_s {
         return Err(Refusal::StartNotFound);

@@ -13,7 +13,7 @@ use Rattle.recovery_walk.proofs.Scan.{scan-fault, scan-no-start, scan-no-end, sc
 use Rattle.recovery_walk.proofs.scan_images.Goals as goal
 
 pub walk_images-requires-clause-blank : goal.walk_images-requires-clause-blank
-walk_images-requires-clause-blank c = ap (λ (g : Segment). replicate 64 g) c.no_segment-segs.ensures
+walk_images-requires-clause-blank c = ap (λ (g : Segment). replicate 64 g) c.no_segment-none.ensures
 
 pub returns-in_err-found : goal.returns-in_err-found
 returns-in_err-found c =
