@@ -7,8 +7,8 @@ ghost use Rattle.samples.specs.Sample.{filled_by};
 
 use seglog::{Log, Shape};
 
-// The log after n appends of abc, over an area of 16384 bytes; after them to the zero log where that is refused. A refused append leaves
-// the log as it was.
+// The log after n appends of abc to a new one, over an area of 16384 bytes; to the zero log where a new one is refused. A refused append
+// leaves the log as it was.
 pub fn filled(area: &mut [u8], m: u64, n: u64) -> Log
     ensures { (result ≡ (filled_by m n area.old).log) × (area.new ≡ (filled_by m n area.old).area) }
 {
