@@ -5,14 +5,17 @@ ghost use Rattle.std.specs.Prelude.{[], ◌∷◌, ◌++◌, ◌≤◌, length};
 ghost use Rattle.text.specs.Texts.{Put};
 
 use std::io::Read;
+use text::Text;
 
 // FOLDER/NAME over the front of out; its length. What does not fit is dropped.
 pub fn path_into(folder: &[u8], name: &[u8], out: &mut [u8]) -> usize
     ensures { Put 0 ((folder.now ++ (47 ∷ [])) ++ name.now) out.old result out.new }
 {
-    let behind = text::put(&mut *out, 0, folder);
-    let slash = text::put(&mut *out, behind, b"/");
-    text::put(out, slash, name)
+    let mut path = Text { out, end: 0 };
+    path.put(folder);
+    path.put(b"/");
+    path.put(name);
+    path.end
 }
 
 // Reads until the buffer is full, the input ends or a read fails; how many bytes came.

@@ -1,4 +1,4 @@
-// What the programs print of a log, put into a lent buffer: the line of its live range and one line an index row, as specimen 13 has them.
+// What the programs print of a log, put behind a text in a lent buffer: the line of its live range and one line an index row, as specimen 13 has them.
 // And the image rows of a log's segments.
 #![tactic(auto)]
 
@@ -10,6 +10,7 @@ ghost use Rattle.listing.specs.Images.{images_of};
 use image_rows::Rows;
 use seglog::Log;
 use segment::ImageRow;
+use text::Text;
 
 // The image rows of the log's segments.
 pub fn images_of(log: Log) -> Rows
@@ -26,42 +27,46 @@ pub fn images_of(log: Log) -> Rows
     }
 }
 
-// How many segments the log lists, and its live range, as a line from `at` on; where it ends.
-pub fn kept(log: Log, out: &mut [u8], at: usize) -> usize
-    ensures { Put at (kept_line log.count log.start log.end) out.old result out.new }
+// How many segments the log lists, and its live range, as a line behind the text.
+pub fn kept(log: Log, text: &mut Text<'_>)
+    ensures put { Put text.old.end (kept_line log.count log.start log.end) text.old.out.now text.new.end text.new.out.now }
+    ensures same_buffer { text.new.out.ghost_name ≡ text.old.out.ghost_name }
 {
-    let count = text::put_named(out, at, b"kept ", log.count as u64);
-    let start = text::put_named(out, count, b" live ", log.start);
-    let end = text::put_named(out, start, b" ", log.end);
-    text::put(out, end, b"\n")
+    text.put_named(b"kept ", log.count as u64);
+    text.put_named(b" live ", log.start);
+    text.put_named(b" ", log.end);
+    text.put(b"\n");
 }
 
-// The four words of an index row from `at` on; where they end.
-pub fn row(id: u64, slot: u64, offset: u64, length: u64, out: &mut [u8], at: usize) -> usize
-    ensures { Put at (row_words id slot offset length) out.old result out.new }
+// The four words of an index row, behind the text.
+pub fn row(id: u64, slot: u64, offset: u64, length: u64, text: &mut Text<'_>)
+    ensures put { Put text.old.end (row_words id slot offset length) text.old.out.now text.new.end text.new.out.now }
+    ensures same_buffer { text.new.out.ghost_name ≡ text.old.out.ghost_name }
 {
-    let first = text::put_number(out, at, id);
-    let second = text::put_named(out, first, b" ", slot);
-    let third = text::put_named(out, second, b" ", offset);
-    text::put_named(out, third, b" ", length)
+    text.put_number(id);
+    text.put_named(b" ", slot);
+    text.put_named(b" ", offset);
+    text.put_named(b" ", length);
 }
 
-// The row that four words of an index are, as a line from `at` on; where it ends.
-fn line(words: &[u64], out: &mut [u8], at: usize) -> usize
+// The row that four words of an index are, as a line behind the text.
+fn line(words: &[u64], text: &mut Text<'_>)
     requires { length words.now ≡ 4 }
-    ensures { Put at (row_line words.now) out.old result out.new }
+    ensures put { Put text.old.end (row_line words.now) text.old.out.now text.new.end text.new.out.now }
+    ensures same_buffer { text.new.out.ghost_name ≡ text.old.out.ghost_name }
 {
-    let end = row(words[0], words[1], words[2], words[3], out, at);
-    text::put(out, end, b"\n")
+    row(words[0], words[1], words[2], words[3], text);
+    text.put(b"\n");
 }
 
-// The first `count` rows of an index, as far as it has them, a line each from `at` on; where they end.
-pub fn rows(index: &[u64], count: u64, out: &mut [u8], at: usize) -> usize
-    ensures { Put at (row_lines count index.now) out.old result out.new }
+// The first `count` rows of an index, as far as it has them, a line each behind the text.
+pub fn rows(index: &[u64], count: u64, text: &mut Text<'_>)
+    ensures put { Put text.old.end (row_lines count index.now) text.old.out.now text.new.end text.new.out.now }
+    ensures same_buffer { text.new.out.ghost_name ≡ text.old.out.ghost_name }
 {
-    let mut end = text::put(out, at, b"");
+    // an end behind the buffer is the buffer's end from here on
+    text.put(b"");
     for words in index.chunks_exact(4).take(count as usize) {
-        end = line(words, out, end);
+        line(words, text);
     }
-    end
 }

@@ -6,12 +6,11 @@ ghost use Rattle.std.specs.Prelude.{◌≡◌, ◌++◌, ◌<◌, drop};
 ghost use Rattle.text.specs.Decimal.{decimal_of};
 ghost use Rattle.text.specs.Texts.{Put};
 
-// Writes the bytes from `at` on; where they end.
-pub fn put(out: &mut [u8], at: usize, bytes: &[u8]) -> usize
-    ensures { Put at bytes.now out.old result out.new }
-{
-    lists::copy_into(out, at, bytes);
-    at.saturating_add(bytes.len()).min(out.len())
+// The buffer, and where the text that stands in it ends.
+#[derive(Drop)]
+pub struct Text<'a> {
+    pub out: &'a mut [u8],
+    pub end: usize,
 }
 
 // Puts the decimal digits of v at the end of 20 bytes, the last one first; where they begin.
@@ -30,19 +29,32 @@ fn digits_into(v: u64, digits: &mut [u8; 20]) -> usize
     0
 }
 
-// Writes a number in decimal from `at` on; where it ends.
-pub fn put_number(out: &mut [u8], at: usize, v: u64) -> usize
-    ensures { Put at (decimal_of v) out.old result out.new }
-{
-    let mut digits = [0; 20];
-    let begin = digits_into(v, &mut digits);
-    put(out, at, &digits[begin..])
-}
+impl Text<'_> {
+    // Puts the bytes behind the text.
+    pub fn put(&mut self, bytes: &[u8])
+        ensures text { Put self.old.end bytes.now self.old.out.now self.new.end self.new.out.now }
+        ensures same_buffer { self.new.out.ghost_name ≡ self.old.out.ghost_name }
+    {
+        lists::copy_into(self.out, self.end, bytes);
+        self.end = self.end.saturating_add(bytes.len()).min(self.out.len());
+    }
 
-// Writes a word and a number from `at` on; where the number ends.
-pub fn put_named(out: &mut [u8], at: usize, word: &[u8], v: u64) -> usize
-    ensures { Put at (word.now ++ decimal_of v) out.old result out.new }
-{
-    let end = put(out, at, word);
-    put_number(out, end, v)
+    // Puts a number behind the text, in decimal.
+    pub fn put_number(&mut self, v: u64)
+        ensures text { Put self.old.end (decimal_of v) self.old.out.now self.new.end self.new.out.now }
+        ensures same_buffer { self.new.out.ghost_name ≡ self.old.out.ghost_name }
+    {
+        let mut digits = [0; 20];
+        let begin = digits_into(v, &mut digits);
+        self.put(&digits[begin..]);
+    }
+
+    // Puts a word and a number behind the text.
+    pub fn put_named(&mut self, word: &[u8], v: u64)
+        ensures text { Put self.old.end (word.now ++ decimal_of v) self.old.out.now self.new.end self.new.out.now }
+        ensures same_buffer { self.new.out.ghost_name ≡ self.old.out.ghost_name }
+    {
+        self.put(word);
+        self.put_number(v);
+    }
 }

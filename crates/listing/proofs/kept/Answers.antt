@@ -3,6 +3,6 @@
 use Rattle.text.proofs.Texts.{put-join}
 use Rattle.listing.proofs.kept.Goals as goal
 
-pub returns : goal.returns
-returns c =
-    put-join (put-join (put-join c.put_named-count.ensures c.put_named-start.ensures) c.put_named-end.ensures) c.put.ensures
+pub returns-clause-put : goal.returns-clause-put
+returns-clause-put c =
+    put-join (put-join (put-join c.put_named.ensures.text c.put_named-2.ensures.text) c.put_named-3.ensures.text) c.put.ensures.text

@@ -3,5 +3,5 @@
 use Rattle.text.proofs.Texts.{put-join}
 use Rattle.listing.proofs.line.Goals as goal
 
-pub returns : goal.returns
-returns c = put-join c.row-end.ensures c.put.ensures
+pub returns-clause-put : goal.returns-clause-put
+returns-clause-put c = put-join c.row.ensures.put c.put.ensures.text

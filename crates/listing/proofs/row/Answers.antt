@@ -1,9 +1,8 @@
--- `listing::row`: four numbers, one behind the other.
+-- `listing::row`: the words, one behind the other.
 -- Assumes nothing.
 use Rattle.text.proofs.Texts.{put-join}
 use Rattle.listing.proofs.row.Goals as goal
 
-pub returns : goal.returns
-returns c =
-    put-join (put-join (put-join c.put_number-first.ensures c.put_named-second.ensures) c.put_named-third.ensures)
-    c.put_named.ensures
+pub returns-clause-put : goal.returns-clause-put
+returns-clause-put c =
+    put-join (put-join (put-join c.put_number.ensures.text c.put_named.ensures.text) c.put_named-2.ensures.text) c.put_named-3.ensures.text

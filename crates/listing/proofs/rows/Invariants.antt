@@ -8,4 +8,6 @@ use Rattle.listing.proofs.rows.Given as goal
 abbrev pub invariant-loop-words : goal.invariant-loop-words
 invariant-loop-words l =
     (l.words-iterator.iter.size ≡ 4)
-    × Rest l.initial.end (row_lines l.count l.index) l.initial.out l.end l.words-iterator.n l.words-iterator.iter.rest.now l.out
+    × Rest l.initial.text.end (row_lines l.count l.index) l.initial.text.out.now l.text.end l.words-iterator.n l.words-iterator.iter.rest.now
+    l.text.out.now
+    × (l.text.out.ghost_name ≡ l.initial.text.out.ghost_name)
