@@ -16,7 +16,7 @@ images-of-unique κs a r r' e e' = unique
 pub kept-unique : UniqueMemory kept.Learnt {M = ℕ × List ℕ} (λ _ e. (e.1.0.now.end, e.1.0.now.out.now))
 kept-unique κs a r r' e e' p q = same-text p.0 q.0
 
-pub row-unique : UniqueMemory row.Learnt {M = ℕ × List ℕ} (λ _ e. (e.1.1.1.1.0.now.end, e.1.1.1.1.0.now.out.now))
+pub row-unique : UniqueMemory row.Learnt {M = ℕ × List ℕ} (λ _ e. (e.1.0.now.end, e.1.0.now.out.now))
 row-unique κs a r r' e e' p q = same-text p.0 q.0
 
 pub rows-unique : UniqueMemory rows.Learnt {M = ℕ × List ℕ} (λ _ e. (e.1.1.0.now.end, e.1.1.0.now.out.now))

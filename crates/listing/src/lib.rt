@@ -8,6 +8,7 @@ ghost use Rattle.listing.specs.Lines.{kept_line, row_words, row_line, row_lines}
 ghost use Rattle.listing.specs.Images.{images_of};
 
 use image_rows::Rows;
+use payload::IndexRow;
 use seglog::Log;
 use segment::ImageRow;
 use text::Text;
@@ -39,14 +40,14 @@ pub fn kept(log: Log, text: &mut Text<'_>)
 }
 
 // The four words of an index row, behind the text.
-pub fn row(id: u64, slot: u64, offset: u64, length: u64, text: &mut Text<'_>)
-    ensures put { Put text.old.end (row_words id slot offset length) text.old.out.now text.new.end text.new.out.now }
+pub fn row(row: IndexRow, text: &mut Text<'_>)
+    ensures put { Put text.old.end (row_words row.id row.slot row.offset row.length) text.old.out.now text.new.end text.new.out.now }
     ensures same_buffer { text.new.out.ghost_name ≡ text.old.out.ghost_name }
 {
-    text.put_number(id);
-    text.put_named(b" ", slot);
-    text.put_named(b" ", offset);
-    text.put_named(b" ", length);
+    text.put_number(row.id);
+    text.put_named(b" ", row.slot);
+    text.put_named(b" ", row.offset);
+    text.put_named(b" ", row.length);
 }
 
 // The row that four words of an index are, as a line behind the text.
@@ -55,7 +56,13 @@ fn line(words: &[u64], text: &mut Text<'_>)
     ensures put { Put text.old.end (row_line words.now) text.old.out.now text.new.end text.new.out.now }
     ensures same_buffer { text.new.out.ghost_name ≡ text.old.out.ghost_name }
 {
-    row(words[0], words[1], words[2], words[3], text);
+    let index_row = IndexRow {
+        id: words[0],
+        slot: words[1],
+        offset: words[2],
+        length: words[3],
+    };
+    row(index_row, text);
     text.put(b"\n");
 }
 
