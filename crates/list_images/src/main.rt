@@ -20,6 +20,7 @@ use seglog::Shape;
 use std::env::Env;
 use std::fs::Files;
 use std::io;
+use text::Text;
 use walk::Range;
 
 // The images' bytes in memory; the index has four words for each page of them.
@@ -43,9 +44,14 @@ fn list(
         Err(refusal) => return println!(rt; "refused {} recovering {s} to {e}", refusal.number()),
     };
     let mut lines = [0u8; 65536];
-    let kept = listing::kept(recovered.log, &mut lines, 0);
-    let legend = text::put(&mut lines, kept, b"record slot offset length\n");
-    let end = listing::rows(&index, recovered.rows, &mut lines, legend);
+    let mut text = Text {
+        out: &mut lines,
+        end: 0,
+    };
+    listing::kept(recovered.log, &mut text);
+    text.put(b"record slot offset length\n");
+    listing::rows(&index, recovered.rows, &mut text);
+    let end = text.end;
     rt.write_all(slices::front(&lines, end))?;
     print!(rt; "ok {} records in {k} images", recovered.rows)?;
     if stopped {

@@ -6,6 +6,7 @@ use recovery::Recovered;
 use refusal::Refusal;
 use seglog::Shape;
 use std::io;
+use text::Text;
 use walk::Range;
 
 // Two records written, and recovered.
@@ -28,8 +29,13 @@ fn main(rt: HostRuntime) -> io::Result<()> {
     match two_records(&mut area, &mut index) {
         Ok(recovered) => {
             let mut lines = [0u8; 256];
-            let kept = listing::kept(recovered.log, &mut lines, 0);
-            let end = listing::rows(&index, recovered.rows, &mut lines, kept);
+            let mut text = Text {
+                out: &mut lines,
+                end: 0,
+            };
+            listing::kept(recovered.log, &mut text);
+            listing::rows(&index, recovered.rows, &mut text);
+            let end = text.end;
             rt.write_all(slices::front(&lines, end))
         }
         Err(refusal) => println!(rt; "refused {}: {refusal}", refusal.number()),
