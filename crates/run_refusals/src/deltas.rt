@@ -2,12 +2,11 @@
 // Assumes nothing.
 use crate::met;
 use delta::{Row, Table};
+use refusal::Refusal;
 use std::io;
 
-fn decode(input: &[u8]) -> u32 {
-    let decoded = delta::decode(input);
-    let answer = decoded.answer;
-    delta::decoding_number(answer)
+fn decode(input: &[u8]) -> Option<Refusal> {
+    delta::decode(input).err()
 }
 
 // A delta that erases one key twice.
@@ -19,33 +18,28 @@ fn twice() -> [u8; 72] {
 
 // A table of one row, of which `count` are listed.
 fn table(count: usize) -> Table {
-    let key = [7u8; 32];
     let row = Row {
-        key,
+        key: [7; 32],
         present: false,
         offset: 0,
         length: 0,
     };
-    let rows = [row; 256];
-    Table { rows, count }
+    Table {
+        rows: [row; 256],
+        count,
+    }
 }
 
-fn encode(table: Table) -> u32 {
+fn encode(table: Table) -> Option<Refusal> {
     let mut out = [0u8; 39];
-    delta_encode::encoded_number(delta_encode::encode(table, b"", &mut out))
+    delta_encode::encode(table, b"", &mut out).err()
 }
 
 pub(crate) fn deltas(rt: &impl Print) -> io::Result<bool> {
-    let repeated = twice();
-    let early = met(rt, decode(&[1, 0, 0]), 40, b"delta input ends early")?;
-    let over = met(rt, decode(&[1, 1, 0, 0]), 41, b"over 256 keys")?;
-    let duplicate = met(rt, decode(&repeated), 42, b"duplicate key")?;
-    let outside = met(
-        rt,
-        encode(table(257)),
-        43,
-        b"table over 256 rows or a value outside its slice",
-    )?;
-    let short = met(rt, encode(table(1)), 44, b"output short")?;
-    Ok(early & over & duplicate & outside & short)
+    let early = met(rt, decode(&[1, 0, 0]), Refusal::EndsEarly)?;
+    let over = met(rt, decode(&[1, 1, 0, 0]), Refusal::OverLimit)?;
+    let duplicate = met(rt, decode(&twice()), Refusal::DuplicateKey)?;
+    let outside = met(rt, encode(table(257)), Refusal::TableOutside)?;
+    let short = met(rt, encode(table(1)), Refusal::OutputShort)?;
+    Ok(early && over && duplicate && outside && short)
 }

@@ -9,29 +9,30 @@ mod deltas;
 mod names;
 mod recoveries;
 
+use refusal::Refusal;
 use std::io;
 
-pub(crate) fn say(rt: &impl Print, bytes: &[u8]) -> io::Result<()> {
-    rt.write_all(bytes)
-}
-
-fn number(rt: &impl Print, v: u64) -> io::Result<()> {
-    rt.print(v)
-}
-
-// The line of a refusal, where the number is the one wanted.
-pub(crate) fn met(rt: &impl Print, got: u32, wanted: u32, when: &[u8]) -> io::Result<bool> {
-    number(rt, wanted as u64)?;
-    say(rt, b" ")?;
-    say(rt, when)?;
-    say(rt, b"\n")?;
-    if got == wanted {
+// The line of a refusal, and of what meets it, where its own words do not say that; whether it is the one that was met.
+pub(crate) fn met_by(
+    rt: &impl Print,
+    met: Option<Refusal>,
+    wanted: Refusal,
+    what: &str,
+) -> io::Result<bool> {
+    println!(rt; "{} {wanted}{what}", wanted.number())?;
+    if met == Some(wanted) {
         return Ok(true);
     }
-    say(rt, b"  but the answer is ")?;
-    number(rt, got as u64)?;
-    say(rt, b"\n")?;
+    println!(rt;
+        "  but the answer is {}",
+        met.map_or(0, |refusal| refusal.number())
+    )?;
     Ok(false)
+}
+
+// The same in the refusal's own words.
+pub(crate) fn met(rt: &impl Print, met: Option<Refusal>, wanted: Refusal) -> io::Result<bool> {
+    met_by(rt, met, wanted, "")
 }
 
 fn main(rt: HostRuntime) -> io::Result<()> {
@@ -42,9 +43,9 @@ fn main(rt: HostRuntime) -> io::Result<()> {
     let ended = recoveries::ends(&rt)?;
     let named = names::names(&rt)?;
     let coded = deltas::deltas(&rt)?;
-    if written & pruned & asked & walked & ended & named & coded {
-        say(&rt, b"ok 35 refusals, and 3 by the comparison\n")
+    if written && pruned && asked && walked && ended && named && coded {
+        println!(rt; "ok 35 refusals, and 3 by the comparison")
     } else {
-        say(&rt, b"differs\n")
+        println!(rt; "differs")
     }
 }
