@@ -1,10 +1,9 @@
--- The library's table, as it is answered, row by row. Assumes (erased []).
-use Rattle.std.proofs.Common.{◌≡◌, [], ℕ, length, refl, sym, ap, subst, get_or, ◌+◌, ◌∙◌, rules}
-use lib.ListN.{set}
+-- The library's table, as it is answered, row by row. Assumes nothing.
+use Rattle.std.proofs.Common.{◌≡◌, [], length, refl, sym, rules}
 use Rattle.lists.proofs.Arrays.{unmapped}
 use Rattle.delta.specs.Table.{erased}
 use Rattle.iflughan.specs.Deltas.{row_out}
-use Rattle.iflughan.proofs.DeltasRows.{Turned, turned-more, turned-all}
+use Rattle.iflughan.proofs.DeltasRows.{turned-more, turned-all}
 use Rattle.iflughan.proofs.deltas.DeltaFromTable.from.Goals as goal
 
 pub loop-i-init : goal.loop-i-init

@@ -1,5 +1,5 @@
 -- The library's table, as it is answered. The loop's invariant: the rows so far are those of the library's table.
--- Assumes (erased []).
+-- Assumes nothing.
 use Rattle.iflughan.specs.Deltas.{row_out}
 use Rattle.iflughan.proofs.DeltasRows.{Turned}
 use Rattle.iflughan.proofs.deltas.DeltaFromTable.from.Given as goal

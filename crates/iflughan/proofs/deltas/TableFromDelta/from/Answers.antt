@@ -1,11 +1,9 @@
 -- The table that is lent, as the library holds it, row by row. Assumes nothing.
-use Rattle.std.proofs.Common.{◌≡◌, [], ℕ, length, refl, sym, ap, subst, get_or, ◌+◌, ◌∙◌, rules}
-use lib.ListN.{set}
+use Rattle.std.proofs.Common.{◌≡◌, [], length, refl, sym, rules}
 use Rattle.lists.proofs.Arrays.{unmapped}
 use Rattle.iflughan.specs.declared.DeltaRow.{DeltaRow}
-use Rattle.delta.specs.declared.Row.{Row}
 use Rattle.iflughan.specs.Deltas.{row_in}
-use Rattle.iflughan.proofs.DeltasRows.{Turned, turned-more, turned-all}
+use Rattle.iflughan.proofs.DeltasRows.{turned-more, turned-all}
 use Rattle.iflughan.proofs.deltas.TableFromDelta.from.Goals as goal
 
 abbrev nothing : DeltaRow
