@@ -1,47 +1,33 @@
 // The images as files: FOLDER/scans.0000000001.log holds the first `size` bytes of a segment's slot, as the original's files do.
 // Files are made anew and never overwritten; what is removed was made here. A read that fails ends what is read of a file.
-ghost use Rattle.std.specs.Prelude.{◌≤◌, length};
+ghost use Rattle.std.specs.Prelude.{◌<◌};
 
-use crate::{named, say};
 use image_rows::Rows;
+use payload::IndexRow;
 use seglog::Log;
 use segment::{ImageRow, Segment};
-use segment_filename::Formatted;
 use std::fs::{File, Files, OpenOptions};
-use std::io::{Read, Write};
+use std::io::Write;
 use std::{fs, io};
 
-// The name of a segment's file over the front of out; its length.
-fn name_into(id: u32, out: &mut [u8]) -> usize {
-    let answer = segment_filename::format(b"scans", id, out);
-    let Formatted::Length(n) = answer else {
-        return 0;
-    };
-    n
+// The name of a segment's file over the front of the room.
+fn name_of(id: u32, room: &mut [u8; 64]) -> &[u8] {
+    let n = segment_filename::format(b"scans", id, &mut *room).unwrap_or(0);
+    slices::front(room, n)
 }
 
 // FOLDER/NAME over the front of out; its length. A path that does not fit is no path, nor is one that is no UTF-8 text.
-fn path_into(folder: &[u8], id: u32, out: &mut [u8]) -> usize {
+fn file_path(folder: &[u8], id: u32, out: &mut [u8]) -> usize {
     let mut name = [0u8; 64];
-    let n = name_into(id, &mut name);
-    let behind = text::put(&mut *out, 0, folder);
-    let slash = text::put(&mut *out, behind, b"/");
-    text::put(out, slash, slices::front(&name, n))
+    folders::path_into(folder, name_of(id, &mut name), out)
 }
 
 // Makes a file that is not there yet, with these bytes; whether they were written, and nothing where the file was not made.
 fn created(rt: &impl Files, path: &[u8], image: &[u8]) -> Option<bool> {
-    let Ok(name) = str::from_utf8(path) else {
-        return None;
-    };
-    match OpenOptions::new()
-        .write(true)
-        .create_new(true)
-        .open(rt, name)
-    {
-        Ok(mut file) => Some(file.write_all(image).is_ok()),
-        Err(_) => None,
-    }
+    let name = str::from_utf8(path).ok()?;
+    let mut options = OpenOptions::new();
+    let mut file = options.write(true).create_new(true).open(rt, name).ok()?;
+    Some(file.write_all(image).is_ok())
 }
 
 // Makes a segment's file and says so; false where it is there already, or cannot be written.
@@ -52,23 +38,21 @@ fn make(
     image: &[u8],
 ) -> io::Result<bool> {
     let mut path = [0u8; 4096];
-    let n = path_into(folder, segment.id, &mut path);
+    let n = file_path(folder, segment.id, &mut path);
     let Some(written) = created(rt, slices::front(&path, n), image) else {
         return Ok(false);
     };
     let mut name = [0u8; 64];
-    let length = name_into(segment.id, &mut name);
-    say(rt, b"wrote ")?;
-    say(rt, slices::front(&name, length))?;
-    named(rt, b", ", segment.size)?;
-    say(rt, b" bytes\n")?;
+    print!(rt; "wrote ")?;
+    rt.write_all(name_of(segment.id, &mut name))?;
+    println!(rt; ", {} bytes", segment.size)?;
     Ok(written)
 }
 
 // Removes a segment's file; one that is not there, or cannot be removed, is let be.
 fn unlink(rt: &impl Files, folder: &[u8], id: u32) {
     let mut path = [0u8; 4096];
-    let n = path_into(folder, id, &mut path);
+    let n = file_path(folder, id, &mut path);
     if let Ok(name) = str::from_utf8(slices::front(&path, n)) {
         let _ = fs::remove_file(rt, name);
     }
@@ -76,14 +60,8 @@ fn unlink(rt: &impl Files, folder: &[u8], id: u32) {
 
 // Removes the files of the log's first n segments.
 pub(crate) fn remove(rt: &impl Files, folder: &[u8], log: Log, n: usize) {
-    let mut i: usize = 0;
-    while i < 64 {
-        if n <= i {
-            return;
-        }
-        let segment = log.segs[i];
+    for segment in log.segs.iter().take(n) {
         unlink(rt, folder, segment.id);
-        i += 1;
     }
 }
 
@@ -94,92 +72,45 @@ pub(crate) fn save(
     log: Log,
     area: &[u8],
 ) -> io::Result<usize> {
-    let mut i: usize = 0;
-    while i < 64 {
-        if log.count <= i {
-            break;
-        }
-        let segment = log.segs[i];
-        let image = payload::payload(log, area, 0, u64::from(segment.slot), 0, segment.size);
-        if !make(rt, folder, segment, image)? {
-            break;
-        }
-        i += 1;
-    }
-    Ok(i)
-}
-
-// Reads until the buffer is full, the file ends or a read fails; how many bytes came.
-fn read_full(file: &mut impl Read, buffer: &mut [u8]) -> usize
-    ensures { result ≤ length buffer.new }
-{
-    let mut done: usize = 0;
-    while done < buffer.len() {
-        let n = match file.read(&mut buffer[done..]) {
-            Ok(n) => n,
-            Err(_) => 0,
+    for (made, segment) in log.segs.iter().take(log.count).enumerate() {
+        let image = IndexRow {
+            id: 0,
+            slot: u64::from(segment.slot),
+            offset: 0,
+            length: segment.size,
         };
-        if n == 0 {
-            break;
+        if !make(rt, folder, *segment, payload::payload(log, area, image))? {
+            return Ok(made);
         }
-        done += n;
     }
-    done
+    Ok(log.count)
 }
 
-// Reads a segment's file into the slot of c bytes at `at`; how many bytes came.
-fn read_into(
-    rt: &impl Files,
-    folder: &[u8],
-    id: u32,
-    area: &mut [u8],
-    at: usize,
-    c: usize,
-) -> usize {
-    if area.len() < at {
-        return 0;
-    }
-    if area.len() - at < c {
-        return 0;
-    }
+// Reads a segment's file into its slot; how many bytes came, nothing where it cannot be opened.
+fn read_into(rt: &impl Files, folder: &[u8], id: u32, slot: &mut [u8]) -> Option<usize> {
     let mut path = [0u8; 4096];
-    let n = path_into(folder, id, &mut path);
-    let Ok(name) = str::from_utf8(slices::front(&path, n)) else {
-        return 0;
-    };
-    let Ok(mut file) = File::open(rt, name) else {
-        return 0;
-    };
-    let end = at + c;
-    read_full(&mut file, &mut area[at..end])
+    let n = file_path(folder, id, &mut path);
+    let name = str::from_utf8(slices::front(&path, n)).ok()?;
+    let mut file = File::open(rt, name).ok()?;
+    Some(folders::read_full(&mut file, slot))
 }
 
 // Reads the files of the log's segments, each into a slot of c bytes: their image rows.
-pub(crate) fn load(rt: &impl Files, folder: &[u8], log: Log, area: &mut [u8], c: usize) -> Rows {
-    let none = ImageRow {
-        id: 0,
-        slot: 0,
-        size: 0,
-    };
-    let mut rows = [none; 64];
-    let mut at: usize = 0;
-    let mut i: usize = 0;
-    while i < 64 {
-        if log.count <= i {
-            break;
-        }
-        if area.len() - at < c {
-            break;
-        }
-        let segment = log.segs[i];
-        let size = read_into(rt, folder, segment.id, &mut *area, at, c);
-        rows[i] = ImageRow {
+pub(crate) fn load(rt: &impl Files, folder: &[u8], log: Log, area: &mut [u8], c: usize) -> Rows
+    requires { 0 < c }
+{
+    let mut rows = [segment::no_row(); 64];
+    let mut count: usize = 0;
+    let slots = (0..64u32).zip(area.chunks_exact_mut(c));
+    let listed = log.segs.iter().take(log.count);
+    for (((slot, bytes), segment), row) in slots.zip(listed).zip(rows.iter_mut()) {
+        let size = read_into(rt, folder, segment.id, bytes).unwrap_or(0);
+        *row = ImageRow {
             id: segment.id,
-            slot: i as u32,
+            slot,
             size: size as u64,
         };
-        at += c;
-        i += 1;
+        count = slot as usize + 1;
     }
-    Rows { count: i, rows }
+    Rows { count, rows }
 }

@@ -1,15 +1,14 @@
 // Specimens 9 to 12: deltas.
 // Assumes nothing.
-use crate::holds;
+use crate::{holds, refused};
 use delta::{Row, Table};
-use delta_encode::Encoded;
+use refusal::Refusal;
 use std::io;
 
 // A row whose key has 32 bytes of one value; its value is the first 3 bytes of what is lent.
-pub(crate) fn row_of(byte: u8, present: bool) -> Row {
-    let key = [byte; 32];
+fn row_of(byte: u8, present: bool) -> Row {
     Row {
-        key,
+        key: [byte; 32],
         present,
         offset: 0,
         length: if present { 3 } else { 0 },
@@ -17,63 +16,37 @@ pub(crate) fn row_of(byte: u8, present: bool) -> Row {
 }
 
 // A table of up to two rows.
-pub(crate) fn table_of(first: Row, second: Row, count: usize) -> Table {
-    let none = row_of(0, false);
-    let mut rows = [none; 256];
+fn table_of(first: Row, second: Row, count: usize) -> Table {
+    let mut rows = [row_of(0, false); 256];
     rows[0] = first;
     rows[1] = second;
     Table { rows, count }
 }
 
-// The length written, or the refusal's number.
+// The bytes written, 0 where the table is refused.
 fn written(table: Table, out: &mut [u8]) -> u64 {
-    let answer = delta_encode::encode(table, b"abc", out);
-    let Encoded::Written(n) = answer else {
-        return delta_encode::encoded_number(answer) as u64;
-    };
-    n as u64
-}
-
-// The first eight bytes as one number.
-fn eight(bytes: &[u8]) -> u64 {
-    match little_endian::read_u64(bytes, 0) {
-        little_endian::U64At::Value(v) => v,
-        little_endian::U64At::Short => 1,
-    }
+    delta_encode::encode(table, b"abc", out).map_or(0, |n| n as u64)
 }
 
 pub(crate) fn deltas(rt: &impl Print) -> io::Result<bool> {
     let mut out = [255u8; 64];
     let erase = row_of(7, false);
     let reinstate = row_of(7, true);
-    let empty = holds(
-        rt,
-        9,
-        b"empty delta: bytes",
-        written(table_of(erase, erase, 0), &mut out),
-        8,
-    )?;
-    let zeros = holds(rt, 9, b"as a number", eight(&out), 0)?;
-    let erased = holds(
-        rt,
-        10,
-        b"one erase key: bytes",
-        written(table_of(erase, erase, 1), &mut out),
-        40,
-    )?;
-    let reinstated = holds(
-        rt,
-        11,
-        b"one reinstated key with 3 bytes: bytes",
-        written(table_of(reinstate, erase, 1), &mut out),
-        47,
-    )?;
-    let both = holds(
+    let size = written(table_of(erase, erase, 0), &mut out);
+    let empty = holds(rt, 9, "empty delta: bytes", size, 8)?;
+    let eight = little_endian::read_u64(&out, 0).unwrap_or(1);
+    let zeros = holds(rt, 9, "as a number", eight, 0)?;
+    let size = written(table_of(erase, erase, 1), &mut out);
+    let erased = holds(rt, 10, "one erase key: bytes", size, 40)?;
+    let size = written(table_of(reinstate, erase, 1), &mut out);
+    let reinstated = holds(rt, 11, "one reinstated key with 3 bytes: bytes", size, 47)?;
+    let twice = delta_encode::encode(table_of(erase, reinstate, 2), b"abc", &mut out).err();
+    let both = refused(
         rt,
         12,
-        b"the same key in both groups: refusal",
-        written(table_of(erase, reinstate, 2), &mut out),
-        42,
+        "the same key in both groups: refusal",
+        twice,
+        Refusal::DuplicateKey,
     )?;
-    Ok(empty & zeros & erased & reinstated & both)
+    Ok(empty && zeros && erased && reinstated && both)
 }

@@ -8,52 +8,55 @@ mod deltas;
 mod logs;
 mod names;
 
+use refusal::Refusal;
 use std::io;
 
-pub(crate) fn say(rt: &impl Print, bytes: &[u8]) -> io::Result<()> {
-    rt.write_all(bytes)
-}
-
-fn number(rt: &impl Print, v: u64) -> io::Result<()> {
-    rt.print(v)
-}
-
-// One fact of a specimen, where the value is the one wanted.
+// One fact of a specimen; whether the value is the one wanted.
 pub(crate) fn holds(
     rt: &impl Print,
     specimen: u64,
-    what: &[u8],
+    what: &str,
     value: u64,
     wanted: u64,
 ) -> io::Result<bool> {
-    number(rt, specimen)?;
-    say(rt, b" ")?;
-    say(rt, what)?;
-    say(rt, b" ")?;
-    number(rt, value)?;
-    if value == wanted {
-        say(rt, b"\n")?;
-        return Ok(true);
+    print!(rt; "{specimen} {what} {value}")?;
+    if value != wanted {
+        print!(rt; ", and not {wanted}")?;
     }
-    say(rt, b", and not ")?;
-    number(rt, wanted)?;
-    say(rt, b"\n")?;
-    Ok(false)
+    println!(rt)?;
+    Ok(value == wanted)
+}
+
+// The same of a refusal, by its number, 0 where the call was accepted.
+pub(crate) fn refused(
+    rt: &impl Print,
+    specimen: u64,
+    what: &str,
+    met: Option<Refusal>,
+    wanted: Refusal,
+) -> io::Result<bool> {
+    let number = met.map_or(0, |refusal| refusal.number());
+    holds(
+        rt,
+        specimen,
+        what,
+        u64::from(number),
+        u64::from(wanted.number()),
+    )
 }
 
 fn main(rt: HostRuntime) -> io::Result<()> {
     let sizes = logs::sizes(&rt)?;
-    say(
-        &rt,
-        b"4 payload 2^30: 1073745920, and 3 for one byte more: lent by the comparison, oracle/run logs\n",
+    println!(rt;
+        "4 payload 2^30: 1073745920, and 3 for one byte more: lent by the comparison, oracle/run logs"
     )?;
     let named = names::names(&rt)?;
     let coded = deltas::deltas(&rt)?;
     let opened = logs::specimen_13(&rt)?;
     let pruned = logs::specimen_14(&rt)?;
-    if sizes & named & coded & opened & pruned {
-        say(&rt, b"ok 13 specimens\n")
+    if sizes && named && coded && opened && pruned {
+        println!(rt; "ok 13 specimens")
     } else {
-        say(&rt, b"differs\n")
+        println!(rt; "differs")
     }
 }
