@@ -199,20 +199,19 @@ fn started(log: Log, n: u64) -> Log
     }
 }
 
-// The log of the first `left` segments, of which the last ends with the record n.
-fn ended(log: Log, left: usize, n: u64, newest: Newest) -> Log
+// The log of the first `left` segments, of which the last ends with the record n. Never inlined, and the log changed in place, for the
+// stack that the C interface's prune takes (tests/abi/stack.c).
+#[inline(never)]
+fn ended(mut log: Log, left: usize, n: u64, newest: Newest) -> Log
     requires { (0 < left) × (left ≤ 64) }
     ensures { result ≡ ended_log log left n newest }
 {
-    let mut segs = cleared(log.segs, left);
     let head = left - 1;
-    segs[head] = segment::ended_at(segs[head], n, newest.at, newest.end);
-    Log {
-        end: n,
-        count: left,
-        segs,
-        ..log
-    }
+    log.segs[left..].fill(segment::no_segment());
+    log.segs[head] = segment::ended_at(log.segs[head], n, newest.at, newest.end);
+    log.end = n;
+    log.count = left;
+    log
 }
 
 // Drops the leading segments that hold no record from `new_start_live` on. No byte of the area is touched.
