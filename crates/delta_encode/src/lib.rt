@@ -139,12 +139,7 @@ pub fn encode(t: Table, values: &[u8], out: &mut [u8]) -> Result<usize, Refusal>
     if any_outside(&t.rows[..t.count], values.len()) {
         return Err(Refusal::TableOutside);
     }
-    let arranged = delta::arrange(t);
-    // lent, and not moved out: a table by value takes 14 KB of the stack each time (tests/abi/stack.c)
-    let table = match &arranged {
-        Ok(table) => table,
-        Err(refusal) => return Err(*refusal),
-    };
+    let table = delta::arrange(t)?;
     let rows = &table.rows[..table.count];
     let sizes = measure(rows);
     if out.len() < sizes.size {

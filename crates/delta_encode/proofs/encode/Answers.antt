@@ -1,10 +1,9 @@
 -- `delta_encode::encode` meets its contract: each answer by the tests that led there, and the four parts one behind the other.
 -- Assumes nothing.
-use Rattle.std.proofs.Common.{ℕ, List, ◌≤◌, length, ap, sym, ◌∙◌, arith}
+use Rattle.std.proofs.Common.{ℕ, List, Err, ◌≤◌, length, ap, sym, ◌∙◌, arith}
 use Rattle.lists.specs.Splice.{splice}
-use Rattle.refusal.specs.declared.Refusal.{Refusal}
-use Rattle.refusal.specs.Refusals.{number, outcome}
-use Rattle.lists.specs.Outcome.{refused}
+use Rattle.lists.proofs.Outcome.{handed-on}
+use Rattle.refusal.specs.Refusals.{outcome}
 use Rattle.delta.specs.Table.{rows_of}
 use Rattle.delta_encode.specs.Bytes.{bytes_of}
 use Rattle.delta_encode.proofs.BytesWhole.{known, four-parts, arranged-refused, ends-many, ends-outside, ends-twins, ends-short, ends-written}
@@ -22,20 +21,23 @@ returns-then-any_outside c =
     let both = ends-outside 256 a.t a.values.now a.out.now (omega arith) (sym c.any_outside.ensures ∙ c.if-any_outside.true) in
     record { result_value = both.0; out_after = both.1 }
 
-pub returns-in-Err : goal.returns-in-Err
-returns-in-Err c =
+pub returns-in_err-table : goal.returns-in_err-table
+returns-in_err-table c =
     let a = c.args in
     let inside = sym c.any_outside.ensures ∙ c.if-any_outside.false in
-    let r = c.in-Err.refusal in
-    let d = arranged-refused (rows_of a.t) r (ap outcome (sym c.in-Err.is) ∙ c.arrange-arranged.ensures) in
+    let r = c.in_err-table.field-0.0 in
+    let d = arranged-refused (rows_of a.t) r (ap outcome (sym c.in_err-table.was) ∙ c.arrange.ensures) in
     let both = ends-twins 256 a.t a.values.now a.out.now (omega arith) inside d.1 in
-    record { result_value = ap (λ (x : Refusal). refused (number x)) d.0 ∙ both.0; out_after = both.1 }
+    record {
+      result_value = ap outcome (handed-on c.from_residual.result r c.from_residual.ensures.1 ∙ ap Err d.0) ∙ both.0;
+      out_after = both.1;
+    }
 
 pub returns-then-out-sizes : goal.returns-then-out-sizes
 returns-then-out-sizes c =
     let a = c.args in
     let inside = sym c.any_outside.ensures ∙ c.if-any_outside.false in
-    let k = known a.t c.in-Ok.table (omega arith) (ap outcome (sym c.in-Ok.is) ∙ c.arrange-arranged.ensures) a.values.now c.measure-sizes.result inside c.measure-sizes.ensures in
+    let k = known a.t c.in_ok-table.table (omega arith) (ap outcome (sym c.in_ok-table.was) ∙ c.arrange.ensures) a.values.now c.measure-sizes.result inside c.measure-sizes.ensures in
     let n = k.size in
     let both = ends-short 256 a.t a.values.now a.out.now (omega arith) inside k.once (omega arith) in
     record { result_value = both.0; out_after = both.1 }
@@ -44,21 +46,21 @@ pub put_erases-p-requires : goal.put_erases-p-requires
 put_erases-p-requires c =
     let a = c.args in
     let inside = sym c.any_outside.ensures ∙ c.if-any_outside.false in
-    let k = known a.t c.in-Ok.table (omega arith) (ap outcome (sym c.in-Ok.is) ∙ c.arrange-arranged.ensures) a.values.now c.measure-sizes.result inside c.measure-sizes.ensures in
+    let k = known a.t c.in_ok-table.table (omega arith) (ap outcome (sym c.in_ok-table.was) ∙ c.arrange.ensures) a.values.now c.measure-sizes.result inside c.measure-sizes.ensures in
     record { keyed = c.measure-sizes.ensures.keyed; in_bounds = omega (arith, k.size, k.parts) }
 
 pub overflow_add-p : goal.overflow_add-p
 overflow_add-p c =
     let a = c.args in
     let inside = sym c.any_outside.ensures ∙ c.if-any_outside.false in
-    let k = known a.t c.in-Ok.table (omega arith) (ap outcome (sym c.in-Ok.is) ∙ c.arrange-arranged.ensures) a.values.now c.measure-sizes.result inside c.measure-sizes.ensures in
+    let k = known a.t c.in_ok-table.table (omega arith) (ap outcome (sym c.in_ok-table.was) ∙ c.arrange.ensures) a.values.now c.measure-sizes.result inside c.measure-sizes.ensures in
     omega (arith, k.size, k.parts, c.put_erases-p.ensures.value, c.if-out-sizes.false, c.well_formed)
 
 pub put_reinstates-q-requires : goal.put_reinstates-q-requires
 put_reinstates-q-requires c =
     let a = c.args in
     let inside = sym c.any_outside.ensures ∙ c.if-any_outside.false in
-    let k = known a.t c.in-Ok.table (omega arith) (ap outcome (sym c.in-Ok.is) ∙ c.arrange-arranged.ensures) a.values.now c.measure-sizes.result inside c.measure-sizes.ensures in
+    let k = known a.t c.in_ok-table.table (omega arith) (ap outcome (sym c.in_ok-table.was) ∙ c.arrange.ensures) a.values.now c.measure-sizes.result inside c.measure-sizes.ensures in
     record {
       keyed = c.measure-sizes.ensures.keyed;
       inside = k.none;
@@ -70,13 +72,13 @@ returns c =
     let a = c.args in
     let m = c.measure-sizes.result in
     let inside = sym c.any_outside.ensures ∙ c.if-any_outside.false in
-    let k = known a.t c.in-Ok.table (omega arith) (ap outcome (sym c.in-Ok.is) ∙ c.arrange-arranged.ensures) a.values.now m inside c.measure-sizes.ensures in
+    let k = known a.t c.in_ok-table.table (omega arith) (ap outcome (sym c.in_ok-table.was) ∙ c.arrange.ensures) a.values.now m inside c.measure-sizes.ensures in
     let n = k.size in
     let p = k.parts in
     let q = c.put_erases-p.ensures.value in
     let l = c.put_reinstates-q.ensures.value in
     let room : length (bytes_of a.t a.values.now) ≤ length a.out.now = omega (arith, c.if-out-sizes.false) in
-    let parts = four-parts a.values.now a.out.now (rows_of c.in-Ok.table) m.erases m.reinstates c.put_erases-p.result
+    let parts = four-parts a.values.now a.out.now (rows_of c.in_ok-table.table) m.erases m.reinstates c.put_erases-p.result
     c.put_reinstates-q.result c.write_u32.new.out c.put_erases-p.new.out c.write_u32-2.new.out c.put_reinstates-q.new.out
     c.measure-sizes.ensures.erased c.measure-sizes.ensures.kept q c.write_u32.ensures c.put_erases-p.ensures.out_after c.write_u32-2.ensures
     c.put_reinstates-q.ensures.out_after in
