@@ -139,7 +139,8 @@ pub fn encode(t: Table, values: &[u8], out: &mut [u8]) -> Result<usize, Refusal>
     if any_outside(&t.rows[..t.count], values.len()) {
         return Err(Refusal::TableOutside);
     }
-    let table = delta::arrange(t)?;
+    let mut table = t;
+    delta::in_order(&mut table)?;
     let rows = &table.rows[..table.count];
     let sizes = measure(rows);
     if out.len() < sizes.size {
