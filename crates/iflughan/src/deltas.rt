@@ -1,9 +1,9 @@
 // Deltas across the C interface: the library's table as rows of numbers and back, and the answers as numbers.
-ghost use Rattle.std.specs.Prelude.{◌≡◌};
+ghost use Rattle.std.specs.Prelude.{◌≡◌, map};
 ghost use Rattle.delta.specs.Reading.{decode_outcome, decoded_of};
 ghost use Rattle.delta_encode.specs.Bytes.{encoded_of, after_of};
 ghost use Rattle.iflughan.specs.Names.{written};
-ghost use Rattle.iflughan.specs.Deltas.{row_in, row_out, table_in, table_out, decoded_delta};
+ghost use Rattle.iflughan.specs.Deltas.{row_in, row_out, table_in, decoded_delta};
 
 use crate::{DecodedDelta, Delta, DeltaRow, Written};
 use delta::{Decoded, Row, Table};
@@ -58,21 +58,17 @@ impl From<Delta> for Table {
     }
 }
 
-// The library's table, as it is answered.
-impl From<Table> for Delta {
-    ghost from_gives = { λ from table. table ≡ table_out from };
-
-    #[inline(never)]
-    fn from(t: Table) -> Delta {
-        let mut rows = [DeltaRow::from(Row::default()); 256];
-        for (i, row) in t.rows.iter().enumerate() {
-            rows[i] = DeltaRow::from(*row);
-        }
-        Delta {
-            count: t.count as u64,
-            rows,
-        }
+// The library's rows, as they are answered. Never inlined, and the rows lent, for the stack that the C interface's decoding takes
+// (tests/abi/stack.c).
+#[inline(never)]
+fn rows_out(rows: &[Row; 256]) -> [DeltaRow; 256]
+    ensures { result ≡ map row_out rows.now }
+{
+    let mut out = [DeltaRow::from(Row::default()); 256];
+    for (i, row) in rows.iter().enumerate() {
+        out[i] = DeltaRow::from(*row);
     }
+    out
 }
 
 // The bytes consumed and the rows; no rows beside a refusal.
@@ -86,13 +82,19 @@ impl From<Result<Decoded, Refusal>> for DecodedDelta {
                 refusal: 0,
                 reserved: 0,
                 consumed: decoded.consumed as u64,
-                table: Delta::from(decoded.table),
+                table: Delta {
+                    count: decoded.table.count as u64,
+                    rows: rows_out(&decoded.table.rows),
+                },
             },
             Err(refusal) => DecodedDelta {
                 refusal: refusal.number(),
                 reserved: 0,
                 consumed: 0,
-                table: Delta::from(Table::default()),
+                table: Delta {
+                    count: 0,
+                    rows: [DeltaRow::from(Row::default()); 256],
+                },
             },
         }
     }

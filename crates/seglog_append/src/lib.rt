@@ -77,9 +77,7 @@ fn open_segment(log: Log, last: u32) -> Result<Segment, Refusal>
     })
 }
 
-// Refusals 2 to 7, or where the next record of the log goes: of n payload bytes, in an area of `bytes` bytes. Never inlined, for the
-// stack that the C interface's append takes (tests/abi/stack.c).
-#[inline(never)]
+// Refusals 2 to 7, or where the next record of the log goes: of n payload bytes, in an area of `bytes` bytes.
 pub fn decide(log: Log, bytes: usize, n: usize) -> Result<Place, Refusal>
     ensures { outcome result ≡ decide_log log bytes n }
 {
