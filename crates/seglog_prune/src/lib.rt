@@ -199,9 +199,8 @@ fn started(log: Log, n: u64) -> Log
     }
 }
 
-// The log of the first `left` segments, of which the last ends with the record n. Never inlined, and the log changed in place, for the
-// stack that the C interface's prune takes (tests/abi/stack.c).
-#[inline(never)]
+// The log of the first `left` segments, of which the last ends with the record n. It is changed in place, for the stack that the C
+// interface's prune takes (tests/abi/stack.c).
 fn ended(mut log: Log, left: usize, n: u64, newest: Newest) -> Log
     requires { (0 < left) × (left ≤ 64) }
     ensures { result ≡ ended_log log left n newest }
