@@ -15,7 +15,10 @@ use Rattle.segment.specs.declared.Segment.{Segment}
 use Rattle.segment.specs.Segment.{no_segment, image_of, no_row}
 use Rattle.segment.specs.declared.ImageRow.{ImageRow}
 use Rattle.walk.specs.declared.Scan.{Scan}
-use Rattle.std.specs.Prelude.{Ok, Err, Result}
+use Rattle.std.specs.Prelude.{Ok, Err, Result, Option, Some, None}
+use Rattle.std.specs.Result.{result_err}
+use Rattle.std.proofs.lemmas.Option.{same_Some, none-some}
+use Rattle.refusal.specs.declared.Refusal.{Refusal}
 use Rattle.refusal.specs.Refusals.{number}
 use Rattle.walk.specs.declared.Fault.{Fault}
 use Rattle.walk.specs.Judging.{start_of, next_image}
@@ -63,12 +66,24 @@ zeros-later i j gs h g e =
     ∙ ap (drop (j - i)) (e ∙ ap zeros count ∙ sym (replicate-append-replicate (j - i) (64 - j) no_segment))
     ∙ drop_at (zeros (j - i)) (zeros (64 - j)) (j - i) (length-replicate (j - i) no_segment)
 
+-- the fault that a break carried out is the refused step's
+pub carried : {o : Result Scan Refusal} {f g : Option Refusal} {r n : Refusal} → o ≡ Err r → g ≡ result_err o → f ≡ g → f ≡ Some n → o ≡ Err n
+carried p q s t = p ∙ ap Err (same_Some _ _ (sym (ap result_err p) ∙ sym q ∙ sym s ∙ t))
+
+-- and where none was carried out no step was refused
+pub carried-none : {o : Result Scan Refusal} {f g : Option Refusal} {r : Refusal} → o ≡ Err r → g ≡ result_err o → f ≡ g → f ≡ None → ⊥
+carried-none p q s t = none-some _ (sym t ∙ s ∙ q ∙ ap result_err p)
+
 -- what holds at the head of the images' loop
 pub record AtImages (area : List ℕ) (c s e : ℕ) (rows : List ImageRow) (segs : List Segment) (scan : Scan) (i : ℕ) : Type 0 where
   pub upto : i ≤ length rows
   pub long : length segs ≡ 64
   pub rest : drop i segs ≡ replicate (64 - i) no_segment
   pub so_far : images area c s e rows start_of ≡ behind (take i segs) (images area c s e (drop i rows) scan)
+
+-- what holds at the head of the records' loop: the records from where it began come to what those from here on come to
+pub record AtRecords (img : List ℕ) (s e : ℕ) (scan₀ scan : Scan) : Type 0 where
+  pub so_far : walk_of img s e scan₀ ≡ walk_of img s e scan
 
 module _ (area : List ℕ) (c s e : ℕ) (rows : List ImageRow) where
   abbrev goal : Outcome Found

@@ -1,5 +1,6 @@
-// The first pass, which reads and decides. Nothing of the area but headers is read, and none behind e's record: from there on `next_image`
-// tells no gap and the walk of an image ends at once, so a later row only gives its segment, without records.
+// The first pass, which reads and decides: the records loop inside the images loop, and a labelled break carries the first fault out
+// of both. Nothing of the area but headers is read, and none behind e's record: from there on `next_image` tells no gap and `more` is
+// false, so a later row only gives its segment, without records.
 ghost use Rattle.std.specs.Prelude.{◌≡◌, replicate};
 ghost use Rattle.segment.specs.Segment.{no_segment};
 ghost use Rattle.walk.specs.Judging.{start_of};
@@ -38,15 +39,28 @@ pub(crate) fn walk_images(
     ensures { seen_in segs.new result ≡ scanned_of (images area.now c range.s range.e rows.now start_of) }
 {
     let mut scan = walk::start();
+    let mut fault = None;
     'images: for (i, row) in rows.iter().enumerate() {
-        let front = walk::next_image(scan, row.size)?;
+        let entry = walk::next_image(scan, row.size);
+        let Ok(front) = entry else {
+            fault = entry.err();
+            break 'images;
+        };
+        scan = front;
         let from = (row.slot as u64 * c) as usize;
         let img = &area[from..from + row.size as usize];
-        match walk::walk_image(img, range, front) {
-            Ok(last) => scan = last,
-            Err(fault) => return Err(fault.refusal),
+        'records: while walk::more(scan, row.size) {
+            let step = walk::record_step(img, range, scan);
+            let Ok(next) = step else {
+                fault = step.err();
+                break 'images;
+            };
+            scan = next;
         }
         segs[i] = filled(*row, scan);
     }
-    Ok(scan)
+    match fault {
+        Some(refusal) => Err(refusal),
+        None => Ok(scan),
+    }
 }

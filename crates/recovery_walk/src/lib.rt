@@ -1,4 +1,5 @@
 // Recovery's walk over the images of sorted rows, and the index rows (`Recovery::scan_segment`, `on_next_record` of the Rust's mod.rs).
+// The records loop stands inside the images loop, and a labelled break carries the first fault out of both.
 // `scan_images` is the first pass (first_pass.rt), 21 to 23, and the second pass (second_pass.rt); both run on the step of `walk`.
 #![tactic(auto)]
 

@@ -32,11 +32,15 @@ pub struct Place {
     pub room: u64,
 }
 
-// The last segment id plus one, unless the last one is the greatest; 0 is the last id where there is no segment.
+// The last segment id plus one, wrapping at 32 bits; none where that is 0. The last id is 0 where there is no segment.
 fn gen_segment_id(last: u32) -> Option<u32>
     ensures { result ≡ pick ((last + 1) % 2 ^ 32 == 0) None (Some ((last + 1) % 2 ^ 32)) }
 {
-    last.checked_add(1)
+    let next = last.wrapping_add(1);
+    if next == 0 {
+        return None;
+    }
+    Some(next)
 }
 
 // Whether a new segment is wanted: there is none, or the head's size is the soft size or more.

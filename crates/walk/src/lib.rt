@@ -132,7 +132,9 @@ pub fn record_at(
     if !parts::header_fits(size, pos) {
         return Err(Refusal::ShortHeader);
     }
-    let header = answer?;
+    let Ok(header) = answer else {
+        return Err(answer.unwrap_err());
+    };
     if record::MAX_RECORD_PAYLOAD_SIZE < header.length {
         return Err(Refusal::HeaderTooLong);
     }
