@@ -25,8 +25,9 @@ fn filled(row: ImageRow, state: Scan) -> Segment
     }
 }
 
-// The images of the rows, in slots of c bytes, up to the first fault: the last state, and the segments in the lent entries. They are lent
-// since a copy of them would take more of the stack than the C interface's header says (tests/abi/stack.c).
+// The images of the rows, in slots of c bytes, up to the first fault: the last state, and the segments in the lent entries. They are lent,
+// and the function is never inlined, for the stack that the C interface's recovery takes (tests/abi/stack.c).
+#[inline(never)]
 pub(crate) fn walk_images(
     area: &[u8],
     c: u64,
