@@ -1,11 +1,11 @@
 -- The laws of `fresh` and `distinct`: taken apart at either end, place by place, of a front, in any order; no more elements than
 -- numbers. Assumes nothing.
 use mathlib.Core.Path.{◌≡◌, refl, sym, ap, subst, ◌∙◌}
-use mathlib.Core.Bool.{Bool, true, false, ◌&&◌, not}
+use mathlib.Core.Bool.{Bool, true, false, ◌&&◌, not, and-false}
 use mathlib.Core.List.{List, [], ◌∷◌, ◌++◌, append-nil, map}
 use Prim.Native.Nat.{ℕ, zero, suc, ◌≤◌, ◌<◌}
 use native.Mathlib.Omega.{arith}
-use lib.ListN.{length, get_or, take, length-append}
+use lib.ListN.{length, get_or, take, drop, length-append}
 use lib.Dec.{eqb}
 use borrow.Author.Tests.{eq-eqb, ne_eqb, eqb-true, eqb-false}
 use Rattle.lists.specs.AnyOrder.{AnyOrder}
@@ -116,6 +116,13 @@ module _ {A : Type 0} (key : A → ℕ) where
   distinct-any (x ∷ l) t o =
       rw (any-all (λ y. not (eqb (key x) (key y))) l _ o.others, distinct-any l _ o.others)
       (sym (distinct-middle o.before x o.behind) ∙ ap (distinct key) (sym o.whole))
+
+  -- what fails from i on fails
+  pub distinct-rest : (i : ℕ) (xs : List A) → distinct key (drop i xs) ≡ false → distinct key xs ≡ false
+  unfolding distinct
+  distinct-rest zero xs h = h
+  distinct-rest (suc i) [] h = h
+  distinct-rest (suc i) (x ∷ xs) h = ap (λ (t : Bool). fresh key (key x) xs && t) (distinct-rest i xs h) ∙ and-false (fresh key (key x) xs)
 
   -- a front of them
   pub distinct-front : (i : ℕ) (xs : List A) → distinct key xs ≡ true → distinct key (take i xs) ≡ true

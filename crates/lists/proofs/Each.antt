@@ -3,9 +3,11 @@
 use mathlib.Core.Path.{◌≡◌, refl, ap, ◌∙◌}
 use mathlib.Core.Bool.{Bool, true, false, ◌&&◌, ◌||◌, and-false, or-true}
 use mathlib.Core.List.{List, [], ◌∷◌, ◌++◌}
-use Prim.Native.Nat.{ℕ, zero, suc, ◌<◌}
+use Prim.Native.Nat.{ℕ, zero, suc, ◌+◌, ◌≤◌, ◌<◌}
+use native.Mathlib.Numerals.{add-one}
 use native.Mathlib.Omega.{arith}
-use lib.ListN.{length, get_or, take, drop}
+use lib.ListN.{length, get_or, take, drop, length-drop}
+use lib.Seq.{drop-cons}
 use Rattle.lists.specs.Each.{Every, all, any, linked}
 use Rattle.lists.proofs.Bools.{and_both, both-and}
 
@@ -88,6 +90,22 @@ module _ {A : Type 0} where
     at_all d (x ∷ xs) h = both-and (p x) (all p xs) (h 0 (omega arith)) (at_all d xs (λ i l. h (suc i) (omega arith)))
 
   module _ (r : A → A → Bool) (d : A) where
+    -- from i on: the one behind it, and the rest
+    pub linked-next : (xs : List A) (i : ℕ) → i + 1 < length xs
+        → linked r (drop i xs) ≡ r (get_or xs i d) (get_or xs (i + 1) d) && linked r (drop (i + 1) xs)
+    unfolding linked
+    linked-next xs i h = rw (add-one, drop-cons xs i d (omega arith), drop-cons xs (suc i) d (omega arith))
+
+    -- from i on: none is behind it
+    pub linked-last : (xs : List A) (i : ℕ) → length xs ≤ i + 1 → linked r (drop i xs) ≡ true
+    unfolding linked
+    linked-last xs i h = one (drop i xs) (simp length-drop (omega arith))
+      where
+        one : (l : List A) → length l ≤ 1 → linked r l ≡ true
+        one [] g = refl
+        one (x ∷ []) g = refl
+        one (x ∷ y ∷ l) g = absurd (omega arith)
+
     -- place by place
     pub linked-at : (xs : List A) (i : ℕ) → linked r xs ≡ true → suc i < length xs → r (get_or xs i d) (get_or xs (suc i) d) ≡ true
     unfolding linked

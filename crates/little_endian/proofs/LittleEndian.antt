@@ -3,10 +3,13 @@
 use mathlib.Core.Path.{◌≡◌, refl, sym, ap, ◌∙◌}
 use mathlib.Core.Bool.{true, false}
 use mathlib.Core.List.{List, [], ◌∷◌, ◌++◌}
-use Prim.Native.Nat.{ℕ, zero, suc, ◌+◌, ◌/◌, ◌%◌, ◌^◌, ◌≤◌, ◌<◌}
-use native.Mathlib.Nat.{pow-suc, zero-lt-suc, div-lt_iff_lt-mul}
+use Prim.Native.Nat.{ℕ, zero, suc, ◌+◌, ◌-◌, ◌*◌, ◌/◌, ◌%◌, ◌^◌, ◌≤◌, ◌<◌}
+use native.Mathlib.Nat.{pow-suc, pow-succ', add-zero, zero-add, add-suc, suc-add, add_assoc, one-mul, mul-add, mul_assoc}
+use native.Mathlib.Nat.{zero-lt-suc, div-lt_iff_lt-mul}
+use native.Mathlib.Numerals.{towards_suc}
 use native.Mathlib.Omega.{arith}
-use borrow.Author.Tests.{le-leb}
+use lib.Dec.{leb}
+use borrow.Author.Tests.{le-leb, lt-leb}
 use lib.ListN.{length, get_or, take, drop, length-append, length-take}
 use lib.Seq.{get_or-append_seam, append_snoc}
 use Rattle.std.proofs.Common.{get_or-take, get_or-drop}
@@ -16,7 +19,7 @@ use Rattle.lists.specs.Outcome.{refused, done}
 use Rattle.lists.specs.Splice.{part}
 use Rattle.lists.proofs.Outcome.{refused-is-not-done, refused-injective, done-injective}
 use Rattle.lists.proofs.Splice.{splice-fits, splice-before, splice-behind}
-use Rattle.lists.proofs.Cases.{by-test}
+use Rattle.lists.proofs.Cases.{by-test, by_order}
 use Rattle.little_endian.specs.LittleEndian.{le_bytes, le_at, stand_at, bytes_at, number_at}
 use Rattle.little_endian.specs.Promised.{WriteRead, LeRead}
 
@@ -66,6 +69,26 @@ le-agree n s t at h =
     le-shift n s t at at
     (λ i j e low g. h i low g ∙ ap (λ (k : ℕ). get_or t k 0) (omega arith))
 
+-- two neighbouring numbers are one
+pub le_join : (m n : ℕ) (s : List ℕ) (at : ℕ) → le_at (m + n) s at ≡ le_at m s at + 256 ^ m * le_at n s (at + m)
+unfolding le_at
+le_join zero n s at = simp (zero-add, add-zero, one-mul)
+le_join (suc m) n s at =
+    let step : le_at (suc m + n) s at ≡ get_or s at 0 + 256 * le_at (m + n) s (suc at) = ap (λ (k : ℕ). le_at k s at) (suc-add m n) in
+    step ∙ rw (le_join m n s (suc at), add-suc, suc-add, pow-succ', mul-add, mul_assoc) (sym (add_assoc _ _ _))
+
+-- four bytes as a sum
+pub le_four : (s : List ℕ) (at a b c d : ℕ) → a ≡ get_or s at 0 → b ≡ get_or s (at + 1) 0 → c ≡ get_or s (at + 2) 0 → d ≡ get_or s (at + 3) 0
+    → a + 256 * (b + 256 * (c + 256 * d)) ≡ le_at 4 s at
+unfolding le_at
+le_four s at a b c d ea eb ec ed = simp (ea, eb, ec, ed, towards_suc, add-zero)
+
+-- that n bytes stand from `at` on, by a difference that does not wrap
+pub stand-shift : (at n len : ℕ) → at ≤ len → leb n (len - at) ≡ leb (at + n) len
+stand-shift at n len h =
+    by_order n (len - at) (λ g. le-leb n (len - at) g ∙ sym (le-leb (at + n) len (omega arith)))
+    (λ g. lt-leb n (len - at) g ∙ sym (lt-leb (at + n) len (omega arith)))
+
 -- ---- reading
 
 module _ (n : ℕ) (s : List ℕ) (at : ℕ) where
@@ -88,6 +111,11 @@ module _ (n : ℕ) (s : List ℕ) (at : ℕ) where
   -- a number whose bytes stand is read
   pub number-stands : at + n ≤ length s → (m : ℕ) → number_at n s at ≡ refused m → ⊥
   number-stands h m e = refused-is-not-done (sym e ∙ number-reads (le-leb (at + n) (length s) h))
+
+-- the u64 that stands there, by its two halves
+pub number-halves : (s : List ℕ) (at : ℕ) → stand_at 8 s at ≡ true
+    → number_at 8 s at ≡ done (le_at 4 s at + 4294967296 * le_at 4 s (at + 4))
+number-halves s at h = number-reads 8 s at h ∙ ap done (le_join 4 4 s at)
 
 -- the bytes of a part spell what they spell at their place
 part-spells : (n : ℕ) (s : List ℕ) (at : ℕ) → le_at n (part at n s) 0 ≡ le_at n s at
