@@ -61,7 +61,7 @@ module _ (at : ℕ → Got) (before : List Row) (n start : ℕ) where
         step next = ap (prepend (rows_of u)) (one next)
 
     -- the row at p is not whole
-    grouping-short : i < n → at p ≡ short → (next : ℕ → Reading)
+    pub grouping-short : i < n → at p ≡ short → (next : ℕ → Reading)
         → prepend before (group at n start next) ≡ prepend (rows_of u) (ends (refused 40))
     unfolding group
     grouping-short h e next =
@@ -69,7 +69,7 @@ module _ (at : ℕ → Got) (before : List Row) (n start : ℕ) where
         g.same next ∙ ap (prepend (rows_of u)) (ap (λ (k : ℕ). group at k p next) f ∙ rw e)
 
     -- behind the last row
-    grouping-end : n ≤ i → (next : ℕ → Reading) → prepend before (group at n start next) ≡ prepend (rows_of u) (next p)
+    pub grouping-end : n ≤ i → (next : ℕ → Reading) → prepend before (group at n start next) ≡ prepend (rows_of u) (next p)
     unfolding group
     grouping-end h next =
         let f : n - i ≡ 0 = omega arith in

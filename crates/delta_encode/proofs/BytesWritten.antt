@@ -1,6 +1,6 @@
 -- A loop that writes what each row gives, one behind the other; and what it takes to know that all of it fits.
 -- Assumes nothing.
-use Prim.Native.Nat.{ℕ, ◌+◌, ◌<◌, ◌≤◌}
+use Prim.Native.Nat.{ℕ, ◌+◌, ◌-◌, ◌<◌, ◌≤◌}
 use mathlib.Core.Bool.{Bool, true, false}
 use borrow.Author.Tests.{ltb-false}
 use Rattle.lists.specs.Each.{any}
@@ -8,10 +8,11 @@ use Rattle.lists.proofs.Each.{any_at}
 use Rattle.lists.proofs.Bools.{zero-is-not-one}
 use mathlib.Core.List.{List, [], ◌∷◌, ◌++◌}
 use mathlib.Core.Path.{◌≡◌, refl, ap, sym, ◌∙◌}
-use lib.ListN.{length, get_or, drop, length-append, length-drop, drop_of_length-le}
+use lib.ListN.{length, get_or, take, drop, length-append, length-drop, drop_of_length-le}
 use lib.Seq.{length-take-le, drop-cons}
 use native.Mathlib.Numerals.{add-one}
 use native.Mathlib.Omega.{arith}
+use Rattle.lists.proofs.Arrays.{front}
 use Rattle.delta.specs.declared.Row.{Row}
 use Rattle.delta_encode.specs.Bytes.{erase_bytes, reinstate_bytes, value_of, outside, concat, sum, erases, reinstates, size_of, Keyed, Sized}
 use Rattle.delta_encode.specs.declared.Sizes.{Sizes}
@@ -152,3 +153,32 @@ splice-three o at k w v o1 o2 o3 lk lw e1 e2 e3 =
     ∙ ap (λ (j : ℕ). splice j w (splice at k o)) n2)
     ∙ ap (λ (j : ℕ). splice j v (splice (at + length k) w (splice at k o))) n3
     ∙ splice-join (at + length k) w v (splice at k o) ∙ splice-join at k (w ++ v) o
+
+-- ---- what rows count, from the last one on
+
+module _ (rows : List Row) (n i : ℕ) (l : n ≤ length rows) where
+  -- no row is left: nothing is counted
+  pub sized-end : n ≤ i → Sized (drop i (take n rows)) (record { erases = 0; reinstates = 0; size = 8 })
+  unfolding sum
+  sized-end h =
+      rw (drop_of_length-le (take n rows) {i = i} (simp (length-take-le n rows l) h))
+      (record { erased = refl; kept = refl; size = refl; keyed = tt })
+
+  -- the row before i
+  module _ (p : 0 < i) (q : i ≤ n) (d : Row) where
+    before : drop (i - 1) (take n rows) ≡ get_or rows (i - 1) d ∷ drop i (take n rows)
+    before =
+        let e : i - 1 + 1 ≡ i = omega arith in
+        front rows n (i - 1) d (omega arith) l ∙ ap (λ (k : ℕ). get_or rows (i - 1) d ∷ drop k (take n rows)) e
+
+    -- one row more is counted, with what it adds
+    pub sized-before : (e k size e' k' size' : ℕ) → length (get_or rows (i - 1) d).key ≡ 32
+        → e' ≡ erases (get_or rows (i - 1) d) + e → k' ≡ reinstates (get_or rows (i - 1) d) + k → size' ≡ size_of (get_or rows (i - 1) d) + size
+        → Sized (drop i (take n rows)) (record { erases = e; reinstates = k; size = size })
+        → Sized (drop (i - 1) (take n rows)) (record { erases = e'; reinstates = k'; size = size' })
+    unfolding sum
+    sized-before e k size e' k' size' long he hk hs s =
+        let a = s.erased in
+        let b = s.kept in
+        let c = s.size in
+        rw before (record { erased = omega arith; kept = omega arith; size = omega arith; keyed = (long, s.keyed) })
