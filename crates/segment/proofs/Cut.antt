@@ -3,13 +3,15 @@
 use mathlib.Core.Path.{◌≡◌, refl, ap, ◌∙◌}
 use mathlib.Core.Bool.{false}
 use mathlib.Core.List.{List}
-use Prim.Native.Nat.{ℕ, ◌+◌, ◌-◌, ◌*◌, ◌≤◌, ◌<◌}
-use native.Mathlib.Nat.{suc-mul, mul-le-mul_right}
+use Prim.Native.Nat.{ℕ, suc, ◌+◌, ◌-◌, ◌*◌, ◌/◌, ◌≤◌, ◌<◌}
+use native.Mathlib.Nat.{suc-mul, mul-le-mul_right, div-lt_iff_lt-mul}
 use native.Mathlib.Omega.{arith}
 use lib.ListN.{length, replicate}
-use borrow.Author.Tests.{le-leb, lt-leb}
+use lib.Dec.{ltb}
+use borrow.Author.Tests.{le-leb, lt-leb, leb-true, ltb-true, lt-ltb}
 use Rattle.lists.specs.Splice.{splice}
-use Rattle.lists.proofs.Cases.{by-test, pick-either}
+use Rattle.lists.proofs.Bools.{same_test}
+use Rattle.lists.proofs.Cases.{by-test, by_order, pick-either}
 use Rattle.lists.proofs.Splice.{splice-none}
 use Rattle.segment.specs.declared.Segment.{Segment}
 use Rattle.segment.specs.Segment.{padded_to}
@@ -20,6 +22,26 @@ use Rattle.segment.specs.Cut.{inside_of, truncated_area}
 -- a slot below k lies in an area of k slots
 pub slot-inside : (k c slot n : ℕ) → slot < k → n ≡ k * c → slot * c + c ≤ n
 slot-inside k c slot n h e = omega (arith, suc-mul slot c, mul-le-mul_right c h)
+
+-- the test by a quotient is the test by the product
+pub inside-quotient : (c slot n : ℕ) → 0 < c → ltb slot (n / c) ≡ inside_of c slot n
+inside-quotient c slot n some =
+    same_test (ltb slot (n / c)) (inside_of c slot n)
+    (λ h. le-leb (slot * c + c) n (fits (ltb-true slot (n / c) h)))
+    (λ h. lt-ltb slot (n / c) (below (leb-true (slot * c + c) n h)))
+  where
+    fits : slot < n / c → slot * c + c ≤ n
+    fits h =
+        by_order (slot * c + c) n (λ g. g)
+        (λ g. absurd (omega (arith, h, (div-lt_iff_lt-mul some).1 (past g))))
+      where
+        past : n < slot * c + c → n < suc slot * c
+        past g = omega (arith, suc-mul slot c)
+
+    below : slot * c + c ≤ n → slot < n / c
+    below h =
+        by_order (suc slot) (n / c) (λ g. g)
+        (λ g. absurd (omega (arith, suc-mul slot c, (div-lt_iff_lt-mul some).0 g)))
 
 -- ---- an image that was cut
 

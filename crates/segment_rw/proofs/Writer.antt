@@ -1,14 +1,14 @@
 -- The laws of a record written to a slot: when it fits, what was written then, and what no write touches.
 -- Assumes nothing.
 use mathlib.Core.Path.{◌≡◌, refl, sym, ap, ◌∙◌}
-use mathlib.Core.Bool.{true, ◌&&◌}
+use mathlib.Core.Bool.{true, false, ◌&&◌}
 use mathlib.Core.List.{List, ◌++◌, append_assoc}
-use Prim.Native.Nat.{ℕ, ◌+◌, ◌-◌, ◌*◌, ◌≤◌}
+use Prim.Native.Nat.{ℕ, ◌+◌, ◌-◌, ◌*◌, ◌≤◌, ◌<◌}
 use native.Mathlib.Omega.{arith}
 use lib.ListN.{length, drop, replicate, length-append, length-replicate, length-drop}
 use lib.Seq.{take_all}
 use lib.Dec.{leb}
-use borrow.Author.Tests.{le-leb, leb-true}
+use borrow.Author.Tests.{le-leb, lt-leb, leb-true}
 use borrow.Rule.Slice.PartMut.{put_mid}
 use Rattle.lists.specs.Splice.{part, splice, slot_of}
 use Rattle.lists.proofs.Bools.{and_both}
@@ -21,7 +21,7 @@ use Rattle.little_endian.proofs.LittleEndian.{le-bytes-length}
 use Rattle.record.specs.Record.{max_payload, header_bytes, record_room, record_bytes}
 use Rattle.record.proofs.Record.{header, header-length}
 use Rattle.segment.specs.Cut.{inside_of}
-use Rattle.segment_rw.specs.Writer.{fits_slot, record_in, area_after}
+use Rattle.segment_rw.specs.Writer.{fits_slot, record_in, size_after, area_after, Wrote}
 
 -- what it takes that a record fits
 pub record Fits (c slot size room n bytes : ℕ) : Type 0 where
@@ -49,6 +49,26 @@ module _ (c slot size room n bytes : ℕ) where
         room-inside = leb-true _ _ r.1;
         slot-inside = leb-true _ _ s.1;
       }
+
+  -- one law for each of the first three that fails
+  pub fits-not-small : max_payload < n → fits_slot c slot size room n bytes ≡ false
+  unfolding fits_slot
+  fits-not-small h = simp (lt-leb _ _ h)
+
+  module _ (small : n ≤ max_payload) where
+    pub fits-not-holds : room < 12 + n → fits_slot c slot size room n bytes ≡ false
+    unfolding fits_slot
+    fits-not-holds h = simp (le-leb _ _ small, lt-leb _ _ h)
+
+    module _ (holds : 12 + n ≤ room) where
+      pub fits-not-room : c < size + room → fits_slot c slot size room n bytes ≡ false
+      unfolding fits_slot
+      fits-not-room h = simp (le-leb _ _ small, le-leb _ _ holds, lt-leb _ _ h)
+
+      -- where these three hold, the slot's place decides
+      pub fits-inside : size + room ≤ c → fits_slot c slot size room n bytes ≡ inside_of c slot bytes
+      unfolding fits_slot
+      fits-inside h = simp (le-leb _ _ small, le-leb _ _ holds, le-leb _ _ h)
 
 -- ---- the bytes
 
@@ -145,3 +165,15 @@ module _ (c slot size room id : ℕ) (payload area : List ℕ) where
     pub area-behind : (a n : ℕ) → slot * c + size + room ≤ a → part a n (area_after c slot size room id payload area) ≡ part a n area
     area-behind a n h =
         ap (part a n) area-is ∙ splice-after (slot * c + size) (record_in room id payload) area a n (omega (arith, long))
+
+module _ (c slot size room id : ℕ) (payload area : List ℕ) where
+  -- a record that does not fit: nothing changes
+  pub wrote_none : fits_slot c slot size room (length payload) (length area) ≡ false → Wrote c slot size room id payload area size area
+  unfolding size_after area_after
+  wrote_none e = record { size_is = simp e; area-is = simp e }
+
+  -- a record that fits
+  pub wrote-record : (r : ℕ) (after : List ℕ) → fits_slot c slot size room (length payload) (length area) ≡ true → r ≡ size + room
+      → after ≡ splice (slot * c + size) (record_in room id payload) area → Wrote c slot size room id payload area r after
+  unfolding size_after area_after
+  wrote-record r after e p q = record { size_is = simp e p; area-is = simp e q }

@@ -2,9 +2,10 @@
 -- Assumes nothing.
 use mathlib.Core.Path.{◌≡◌, refl, sym, ap, ◌∙◌}
 use mathlib.Core.Bool.{Bool, true, false, ◌&&◌, not, and-false}
-use Prim.Native.Nat.{ℕ, suc, ◌+◌, ◌-◌, ◌≤◌, ◌<◌}
+use Prim.Native.Nat.{ℕ, zero, suc, ◌+◌, ◌-◌, ◌≤◌, ◌<◌}
+use native.Mathlib.Numerals.{add-one, sub-one}
 use native.Mathlib.Omega.{arith}
-use lib.Dec.{ltb, leb, eqb, lit<, lit≤}
+use lib.Dec.{ltb, leb, eqb, eqb-suc-suc, lit<, lit≤}
 use borrow.Author.Tests.{eq-eqb, ne_eqb, ltb-true, ltb-false, lt-ltb, le-ltb, leb-true, le-leb, lt-leb, eqb-true, eqb-false}
 use Rattle.std.specs.Prelude.{List, length, Result, Ok, Err}
 use Rattle.lists.specs.Choice.{pick}
@@ -112,6 +113,25 @@ pub inside-fits : (size pos : ℕ) → Inside size pos → header_fits size pos 
 unfolding header_fits
 inside-fits size pos h = simp (le-leb (pos + 12) max_image h.small, le-leb (pos + 12) size h.room)
 
+eqb-before : (id last : ℕ) → (id ≡ 0 → ⊥) → eqb (id - 1) last ≡ eqb id (last + 1)
+eqb-before zero last h = absurd (h refl)
+eqb-before (suc n) last h = rw (sub-one, add-one) (sym (eqb-suc-suc n last))
+
+-- 0 follows nothing
+pub follows-zero : (last id : ℕ) → id ≡ 0 → false ≡ follows_of last id
+unfolding follows_of
+follows-zero last id h = simp (eq-eqb _ _ h)
+
+-- the scan's first record may have any id but 0
+pub follows-first : (last id : ℕ) → (id ≡ 0 → ⊥) → last ≡ 0 → true ≡ follows_of last id
+unfolding follows_of
+follows-first last id h l = simp (ne_eqb _ _ h, eq-eqb _ _ l)
+
+-- a later id is compared without forming the one after the last
+pub follows_next : (last id : ℕ) → (id ≡ 0 → ⊥) → (last ≡ 0 → ⊥) → eqb (id - 1) last ≡ follows_of last id
+unfolding follows_of
+follows_next last id h l = simp (ne_eqb _ _ h, ne_eqb _ _ l) (eqb-before id last h)
+
 -- each id follows the one before it
 pub follows-suc : (a : ℕ) → follows_of a (suc a) ≡ true
 unfolding follows_of
@@ -169,6 +189,18 @@ not-cut size s e id end h = go (live_of s e id)
 pub record-short : (size pos : ℕ) (h : Result RecordHeader Refusal) → header_fits size pos ≡ false → Err ShortHeader ≡ record_at size pos h
 unfolding record_at
 record-short size pos h f = simp f
+
+-- a header that fits and can't be read: its refusal
+pub record-refused : (size pos : ℕ) → header_fits size pos ≡ true → (h : Result RecordHeader Refusal) (r : Refusal) → h ≡ Err r
+    → Err r ≡ record_at size pos h
+unfolding record_at
+record-refused size pos fits h r is = rw is (simp fits)
+
+-- 18: its length is too large
+pub record-long : (size pos : ℕ) → header_fits size pos ≡ true → (k : RecordHeader) (h : Result RecordHeader Refusal) → h ≡ Ok k
+    → max_payload < k.length → Err HeaderTooLong ≡ record_at size pos h
+unfolding record_at
+record-long size pos fits k h is l = rw is (simp (fits, lt-ltb max_payload k.length l))
 
 -- a header that fits and is not too long: the record
 pub record-good : (size pos : ℕ) → header_fits size pos ≡ true → (k : RecordHeader) (h : Result RecordHeader Refusal) → h ≡ Ok k
