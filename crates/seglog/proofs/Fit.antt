@@ -1,22 +1,25 @@
 -- Refusal 2 taken apart: what each of its tests says, and the ways of the code through them.
 -- Assumes nothing.
 use mathlib.Core.Path.{◌≡◌, refl, sym, ap, ◌∙◌}
-use mathlib.Core.List.{List}
+use mathlib.Core.List.{List, ◌∷◌}
 use mathlib.Core.Bool.{Bool, true, false, ◌&&◌}
-use Prim.Native.Nat.{ℕ, ◌+◌, ◌*◌, ◌%◌, ◌≤◌, ◌<◌}
+use Prim.Native.Nat.{ℕ, ◌+◌, ◌-◌, ◌*◌, ◌%◌, ◌≤◌, ◌<◌}
 use native.Mathlib.Nat.{mul-le-mul}
 use native.Mathlib.Omega.{arith}
 use mir.Syntax.{w64}
 use mir.Val.{Fits}
-use lib.ListN.{length, take, drop}
+use lib.ListN.{length, get_or, take, drop}
+use lib.Seq.{drop-cons}
 use lib.Dec.{eqb, leb, ltb}
-use borrow.Author.Tests.{le-leb, leb-true, lt-ltb, ltb-true, eq-eqb, eqb-true}
+use borrow.Author.Tests.{le-leb, leb-true, lt-ltb, ltb-true, eq-eqb, eqb-true, eqb-false}
+use Rattle.lists.specs.Choice.{pick}
+use Rattle.lists.proofs.Cases.{by-test}
 use Rattle.segment.specs.declared.Segment.{Segment}
 use Rattle.seglog.specs.declared.Log.{Log}
-use Rattle.seglog.specs.View.{View, log_of, view_of, zeros_of, plain_of}
+use Rattle.seglog.specs.View.{View, log_of, view_of, head_of, zeros_of, plain_of}
 use Rattle.seglog.specs.Chain.{newest_of, seg_of, goes_on, chain_of, ends_of, slots_apart}
 use Rattle.seglog.specs.Fit.{sizes_of, shaped_of, fits_of, fitting_of}
-use Rattle.segment.specs.Segment.{slot_number}
+use Rattle.segment.specs.Segment.{no_segment, slot_number}
 use Rattle.segment.specs.Chain.{NewestFits}
 use Rattle.seglog.specs.New.{roomy_of}
 use Rattle.seglog.specs.Shape.{SizesObey}
@@ -24,7 +27,7 @@ use Rattle.lists.proofs.Bools.{both_ways, and_both, both-and, not_so, same_test}
 use Rattle.lists.specs.Each.{Every, all, linked}
 use Rattle.lists.proofs.Each.{all-every}
 use Rattle.lists.proofs.Distinct.{Below}
-use Rattle.seglog.proofs.View.{plain-log, view-log, listed-length}
+use Rattle.seglog.proofs.View.{plain-log, view-log, listed-length, listed_at, listed-head}
 
 -- ---- K, C and M
 
@@ -296,3 +299,31 @@ module _ (v : View) (sizes : SizesObey v.k v.c v.m) (few : length v.segs ≤ v.k
         ap shaped_of (view-log v) ∙ h,
         eq-eqb n (v.k * v.c) e,
       )
+
+-- ---- the two ends
+
+-- the ends, by the log's first and last segment
+pub ends_by : (l : Log) (n last : ℕ) → Sized l n → last ≡ l.count - 1
+    → pick (eqb l.count 0) (eqb l.start 0 && eqb l.end 0)
+    (leb (get_or l.segs 0 no_segment).min l.start && leb l.start (get_or l.segs 0 no_segment).max
+    && eqb ((get_or l.segs last no_segment).size % 4096) 0 && eqb (get_or l.segs last no_segment).max l.end)
+    ≡ ends_of l.start l.end (take l.count l.segs)
+unfolding ends_of
+ends_by l n last s at_last =
+    by-test (eqb l.count 0)
+    (λ e. let z = eqb-true l.count 0 e in simp e (rw z refl))
+    (λ e.
+    let some : 0 < l.count = let z = eqb-false l.count 0 e in omega arith in
+    let few = sized-count l n s in
+    let gs : List Segment = take l.count l.segs in
+    let first : gs ≡ get_or l.segs 0 no_segment ∷ drop 1 gs =
+    drop-cons gs 0 no_segment (rw (listed-length l.count l.segs s.long few) some)
+    ∙ ap (λ (g : Segment). g ∷ drop 1 gs) (listed_at l.count l.segs s.long few 0 some) in
+    let head : head_of (get_or l.segs 0 no_segment ∷ drop 1 gs) ≡ get_or l.segs last no_segment =
+    ap (λ (x : List Segment). head_of x) (sym first) ∙ listed-head l.count l.segs s.long few some
+    ∙ ap (λ (j : ℕ). get_or l.segs j no_segment) (sym at_last) in
+    simp e
+    (sym (ap (ends_of l.start l.end) first
+    ∙ ap (λ (x : Segment).
+    leb (get_or l.segs 0 no_segment).min l.start && leb l.start (get_or l.segs 0 no_segment).max && eqb (x.size % 4096) 0
+    && eqb x.max l.end) head)))

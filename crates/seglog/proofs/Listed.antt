@@ -1,11 +1,13 @@
--- What the library's tests of each element, and of each two neighbours, answer over a log's entries. Assumes nothing.
+-- What the library's tests of each element, and of each two neighbours, answer over a log's entries; and the unused entries from one of
+-- them on. Assumes nothing.
 use mathlib.Core.Path.{◌≡◌, refl, sym, ap, ◌∙◌}
 use mathlib.Core.Bool.{Bool, true, false, ◌&&◌}
 use mathlib.Core.List.{List, [], ◌∷◌}
-use Prim.Native.Nat.{ℕ, ◌<◌}
+use Prim.Native.Nat.{ℕ, ◌+◌, ◌≤◌, ◌<◌}
 use native.Mathlib.Numerals.{add-one}
 use native.Mathlib.Omega.{arith}
-use lib.ListN.{length, get_or}
+use lib.ListN.{length, get_or, drop, drop_of_length-le}
+use lib.Seq.{drop-cons}
 use Rattle.std.specs.Bool.{MatchBool}
 use Rattle.std.specs.List.{AllWithin, HoldsAt, IsAllAdjacentAnswer}
 use Rattle.lists.specs.Each.{all, linked}
@@ -34,6 +36,28 @@ pub zeros-answer : (gs : List Segment) (r : Bool)
     → MatchBool r (AllWithin (λ g. zero_of g ≡ true) gs 0 (length gs)) ((k : ℕ) × (k < length gs) × HoldsAt (λ g. zero_of g ≡ false) gs k)
     → r ≡ zeros_of gs
 zeros-answer gs r h = all-answer zero_of no_segment gs r h ∙ zeros-all gs
+
+-- ---- the entries from i on
+
+module _ (gs : List Segment) (o : Bool) (i : ℕ) (so_far : o ≡ zeros_of (drop i gs)) where
+  turn : i < length gs → o ≡ zero_of (get_or gs i no_segment) && zeros_of (drop (i + 1) gs)
+  unfolding zeros_of
+  turn h = so_far ∙ ap zeros_of (drop-cons gs i no_segment h ∙ ap (λ (k : ℕ). get_or gs i no_segment ∷ drop k gs) (sym (add-one i)))
+
+  -- an entry that is not zero
+  pub zeros-found : i < length gs → zero_of (get_or gs i no_segment) ≡ false → false ≡ o
+  zeros-found h e = sym (turn h ∙ ap (λ (b : Bool). b && zeros_of (drop (i + 1) gs)) e)
+
+  -- one that is
+  pub zeros-turn : i < length gs → zero_of (get_or gs i no_segment) ≡ true → o ≡ zeros_of (drop (i + 1) gs)
+  zeros-turn h e = turn h ∙ ap (λ (b : Bool). b && zeros_of (drop (i + 1) gs)) e
+
+  -- the end
+  pub zeros-end : length gs ≤ i → true ≡ o
+  unfolding zeros_of
+  zeros-end h = sym (so_far ∙ ap zeros_of (drop_of_length-le gs {i = i} h))
+
+-- ---- neighbours
 
 -- what a test of all neighbours answers
 pub linked-answer : {A : Type 0} (e : A → A → Bool) (d : A) (xs : List A) (r : Bool) → IsAllAdjacentAnswer (λ x y b. b ≡ e x y) xs r → r ≡ linked e xs

@@ -1,6 +1,6 @@
 -- A new log: an answer by its log, and that what is accepted is well shaped. Assumes nothing.
 use mathlib.Core.Path.{◌≡◌, refl, sym, ap, ◌∙◌}
-use mathlib.Core.Bool.{true}
+use mathlib.Core.Bool.{true, false}
 use Prim.Native.Nat.{ℕ}
 use native.Mathlib.Omega.{arith}
 use Rattle.std.specs.Prelude.{Result, Ok, Err}
@@ -10,10 +10,10 @@ use Rattle.refusal.proofs.Refusals.{refusal_of, number-back, numbers-differ}
 use Rattle.lists.specs.Each.{all, linked}
 use Rattle.lists.specs.Distinct.{distinct}
 use Rattle.seglog.specs.declared.Log.{Log}
-use Rattle.seglog.specs.View.{empty_of, log_of, zeros_of}
+use Rattle.seglog.specs.View.{empty_of, log_of, zero_log, zeros_of}
 use Rattle.seglog.specs.Chain.{chain_of, ends_of}
 use Rattle.seglog.specs.Fit.{fitting_of}
-use Rattle.seglog.specs.New.{roomy_of, new_of, Logged, logged}
+use Rattle.seglog.specs.New.{roomy_of, refused_log, accepted, new_of, Logged, logged}
 use Rattle.seglog.proofs.Fit.{roomy-is, is-fitting}
 
 -- no refusal has the number 0
@@ -28,6 +28,16 @@ logged-unique l (Err a) (Ok b) e = absurd (number-some a (ap (λ (x : Logged). x
 logged-unique l (Err a) (Err b) e = ap Err (numbers-differ a b (ap (λ (x : Logged). x.refusal) e))
 
 module _ (k c m n : ℕ) where
+  -- refusal 1
+  pub new-refuses-1 : (l : Log) → roomy_of k c m n ≡ false → l ≡ zero_log → refused_log 1 l ≡ new_of k c m n
+  unfolding new_of
+  new-refuses-1 l h e = rw (h, e) refl
+
+  -- the empty log
+  pub new-empty : (l : Log) → roomy_of k c m n ≡ true → l ≡ log_of (empty_of k c m) → accepted l ≡ new_of k c m n
+  unfolding new_of
+  new-empty l h e = rw (h, e) refl
+
   -- a new log is well shaped and fits its area
   pub new-shaped : roomy_of k c m n ≡ true → fitting_of (new_of k c m n).log n ≡ true
   unfolding new_of zeros_of chain_of all linked distinct ends_of

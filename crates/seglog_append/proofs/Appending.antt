@@ -20,7 +20,7 @@ use Rattle.seglog.proofs.Fit.{fitting-is}
 use Rattle.seglog_append.specs.declared.Place.{Place}
 use Rattle.seglog_append.specs.Deciding.{target_of, before_of, place_of, decide_log}
 use Rattle.seglog_append.specs.Appending.{grown_of, start_after, with_record, record_into, Left, left_of, append_of, append_log}
-use Rattle.seglog_append.specs.Appending.{taken, append_answer, append_area, advanced_by, advanced_of, grown_answer, GrownPre}
+use Rattle.seglog_append.specs.Appending.{refused_append, taken, append_answer, append_area, advanced_by, advanced_of, grown_answer, GrownPre}
 use Rattle.seglog_append.specs.Promised.{AppendAdvances}
 use Rattle.seglog_append.proofs.Deciding.{Allowed, Accepted, few-listed, spot, view-outcomes, decide-outcomes, decided}
 
@@ -98,6 +98,10 @@ module _ (l : Log) (bytes n : ℕ) (long : length l.segs ≡ 64) where
       ap (λ (x : Place). taken (grown_answer l x size)) k.1
       ∙ ap taken (log_is size k.0 (grown ∙ ap (λ (x : Place). x.target.size + x.room) k.1))
       ∙ sym (ap (advanced_by l n) e)
+
+  -- a refusal
+  pub advance-refused : (m : ℕ) → decide_log l bytes n ≡ refused m → refused_append l m ≡ advanced_of l bytes n
+  advance-refused m e = sym (ap (advanced_by l n) e)
 
   -- a record that has its place ends in its slot
   pub decided-room : (s : Place) → decide_log l bytes n ≡ done s → s.target.size + s.room ≤ 2147483648

@@ -265,7 +265,7 @@ module _ (l : Log) (bytes : ℕ) (long : length l.segs ≡ 64) (fits : fitting_o
   front_length = length-take (length listing - 1) listing ∙ omega (arith, listed)
 
   -- a new segment is chosen
-  chosen-new : (g : Segment) (i next slot : ℕ) → opens_of v ≡ true → next ≡ next_id listing → (next ≡ 0 → ⊥) → slot ≡ lowest_free v
+  pub chosen-new : (g : Segment) (i next slot : ℕ) → opens_of v ≡ true → next ≡ next_id listing → (next ≡ 0 → ⊥) → slot ≡ lowest_free v
       → (slot ≡ l.k → ⊥) → i ≡ l.count
       → g ≡ record { id = next; slot = slot; size = 0; min = l.end + 1; max = l.end + 1; newest_at = 0 } → Chosen l g i
   chosen-new g i next slot o n nz f nf p e =

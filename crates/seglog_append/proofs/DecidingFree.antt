@@ -1,6 +1,6 @@
 -- The lowest free slot: it is free, and none before it is; and what a search through the slots finds.
 -- Assumes nothing.
-use Rattle.std.proofs.Common.{◌≡◌, ℕ, zero, suc, ◌+◌, ◌<◌, ◌≤◌, Bool, true, false, eqb, List, get_or, sym, refl, ◌∙◌, arith, eq-eqb, ne_eqb}
+use Rattle.std.proofs.Common.{◌≡◌, ℕ, zero, suc, ◌+◌, ◌-◌, ◌<◌, ◌≤◌, Bool, true, false, eqb, List, get_or, sym, refl, ap, ◌∙◌, add-one, arith, eq-eqb, ne_eqb}
 use Rattle.std.specs.Prelude.{Option, Some, None, MatchOption}
 use Rattle.lists.specs.Choice.{pick}
 use Rattle.lists.proofs.Bools.{clash}
@@ -48,7 +48,32 @@ free-taken gs (suc n) i j l h = go (fresh slot_number i gs) refl h (free-taken g
 pub free-lowest : FreeLowest
 free-lowest a = (λ h. free-good a.segs a.k 0 (omega arith), λ j h. free-taken a.segs a.k 0 j (omega arith) h)
 
--- ---- the search
+-- ---- the search from i on
+
+-- it begins at 0
+pub free-start : (k : ℕ) (gs : List Segment) → free_from k 0 gs ≡ free_from (k - 0) 0 gs
+free-start k gs = ap (λ (n : ℕ). free_from n 0 gs) (omega arith)
+
+-- a taken slot
+pub free-turn : (k i : ℕ) (gs : List Segment) → i < k → fresh slot_number i gs ≡ false
+    → free_from (k - i) i gs ≡ free_from (k - (i + 1)) (i + 1) gs
+unfolding free_from
+free-turn k i gs h q =
+    let n : k - i ≡ suc (k - (i + 1)) = omega arith in
+    ap (λ (j : ℕ). free_from j i gs) n ∙ simp q (ap (λ (j : ℕ). free_from (k - (i + 1)) j gs) (sym (add-one i)))
+
+-- a free one
+pub free-found : (k i : ℕ) (gs : List Segment) → i < k → fresh slot_number i gs ≡ true → free_from (k - i) i gs ≡ i
+unfolding free_from
+free-found k i gs h q =
+    let n : k - i ≡ suc (k - (i + 1)) = omega arith in ap (λ (j : ℕ). free_from j i gs) n ∙ simp q
+
+-- none is left
+pub free-none : (k i : ℕ) (gs : List Segment) → k ≤ i → free_from (k - i) i gs ≡ i
+unfolding free_from
+free-none k i gs h = let n : k - i ≡ 0 = omega arith in ap (λ (j : ℕ). free_from j i gs) n
+
+-- ---- the search by marks
 
 module _ (k : ℕ) (gs : List Segment) where
   -- the first of the K slots that is free is the lowest
@@ -60,19 +85,19 @@ module _ (k : ℕ) (gs : List Segment) where
       (λ h. clash (sym (none m h) ∙ free-good gs k 0 (omega arith)))
 
   -- where none is, there is none
-  free-none : ((j : ℕ) → j < k → fresh slot_number j gs ≡ false) → free_from k 0 gs ≡ k
-  free-none none =
+  free-full : ((j : ℕ) → j < k → fresh slot_number j gs ≡ false) → free_from k 0 gs ≡ k
+  free-full none =
       let most = free-most gs k 0 in
       by_order k (free_from k 0 gs) (λ h. omega arith) (λ h. clash (sym (none _ h) ∙ free-good gs k 0 (omega arith)))
 
   -- what a search through the K slots finds, by the marks
-  pub free-found : (used : List Bool) → k ≤ 64 → Marked used gs → (r : Option ℕ)
+  pub free-searched : (used : List Bool) → k ≤ 64 → Marked used gs → (r : Option ℕ)
       → MatchOption r ((j : ℕ) → 0 ≤ j → j < k → get_or used j false ≡ true)
       (λ i. (0 ≤ i) × (i < k) × (get_or used i false ≡ false) × ((j : ℕ) → 0 ≤ j → j < i → get_or used j false ≡ true))
       → r ≡ pick (eqb (free_from k 0 gs) k) None (Some (free_from k 0 gs))
-  free-found used few m None h =
-      let e = free-none (λ j l. marked-yes used gs j (omega arith) m (h j (omega arith) l)) in sym (simp (e, eq-eqb k k refl))
-  free-found used few m (Some i) h =
+  free-searched used few m None h =
+      let e = free-full (λ j l. marked-yes used gs j (omega arith) m (h j (omega arith) l)) in sym (simp (e, eq-eqb k k refl))
+  free-searched used few m (Some i) h =
       let l = h.1 in
       let e = free-first i l (marked-no used gs i (omega arith) m h.2) (λ j b. marked-yes used gs j (omega arith) m (h.3 j (omega arith) b)) in
       sym (simp (e, ne_eqb i k (λ z. omega arith)))

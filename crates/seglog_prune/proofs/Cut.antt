@@ -2,6 +2,7 @@
 use mathlib.Core.Path.{◌≡◌, refl, sym, ap, subst, ◌∙◌}
 use mathlib.Core.Bool.{Bool, true, false}
 use mathlib.Core.List.{List}
+use mathlib.Core.Logic.{◌⊎◌, ⊎_elim}
 use Prim.Native.Nat.{ℕ, ◌+◌, ◌-◌, ◌%◌, ◌≤◌, ◌<◌}
 use native.Mathlib.Omega.{arith}
 use lib.ListN.{length}
@@ -65,6 +66,16 @@ module _ (img : List ℕ) (n at : ℕ) where
   abbrev pub found_at : Result Placed Refusal
   found_at = record_at (length img) at (header_at img at)
 
+  -- a header that can't be read
+  pub look-unread : (r : Refusal) → found_at ≡ Err r → Nothing ≡ look_at img n at
+  unfolding look_at
+  look-unread r read = rw read refl
+
+  -- a payload that ends past the image, whether or not it is of the record looked for
+  pub look-past : (p : Placed) → found_at ≡ Ok p → length img < p.end → Nothing ≡ look_at img n at
+  unfolding look_at
+  look-past p read past = simp (read, lt-ltb (length img) p.end past)
+
   module _ (p : Placed) (read : found_at ≡ Ok p) (fits : p.end ≤ length img) where
     -- the record looked for
     pub look-here : p.id ≡ n → Here (record { at = at; end = p.next }) ≡ look_at img n at
@@ -110,6 +121,10 @@ look-tells img n at = go (found_at img n at) refl
     go (Err m) r = tt
     go (Ok p) r =
         by p (ltb (length img) p.end) (eqb p.id n) (record-placed (length img) at (header_at img at) p r) refl
+
+-- what the other two answers come to
+pub only-lost : (o : Look) → ((x : ℕ) × (o ≡ Other x)) ⊎ (o ≡ Nothing) → only o ≡ lost
+only-lost o is = ⊎_elim (λ h. ap only h.1) (λ h. ap only h) is
 
 -- ---- the search
 

@@ -3,6 +3,7 @@
 use mathlib.Core.Path.{◌≡◌, refl, sym, ap, ◌∙◌}
 use mathlib.Core.Bool.{Bool, true, false, not, ◌&&◌}
 use mathlib.Core.List.{List}
+use mathlib.Core.Logic.{◌⊎◌, ⊎_elim}
 use Prim.Native.Nat.{ℕ, ◌*◌, ◌≤◌, ◌<◌}
 use native.Mathlib.Omega.{arith}
 use lib.ListN.{length, take, drop, length-take}
@@ -62,6 +63,11 @@ unfolding early_of
 early-keeps a fits n good some z = simp (good, ne_eqb n 0 some, eq-eqb (length a.segs) 0 z)
 
 module _ (a : View) (fits : Bool) (n : ℕ) (good : fits ≡ true) (some : n ≡ 0 → ⊥) (listed : length a.segs ≡ 0 → ⊥) where
+  -- refusal 8
+  pub early-refuses-8 : a.end < n → Err AboveLiveEnd ≡ early_of a fits n
+  unfolding early_of
+  early-refuses-8 h = simp (good, ne_eqb n 0 some, ne_eqb (length a.segs) 0 listed, lt-ltb a.end n h)
+
   -- refusal 9
   pub early-refuses-9 : n ≤ a.end → n < a.start → Err BelowLiveStart ≡ early_of a fits n
   unfolding early_of
@@ -185,3 +191,7 @@ module _ (l : Log) (area : List ℕ) (n : ℕ) (rest : Outcome Pruned) (long : l
           let plain = fits-plain l (length area) (same-fits (view_of l) (fitting_of l (length area)) n h) in
           (ap accepted (sym (log-view l long plain)) ∙ ap (prune_answer l) (sym o), ap (prune_area area) (sym o))
       go Onward h tag o = absurd (tag refl)
+
+-- where the log given is the answer
+pub settled-given : (l : Log) (e : Early) → (e ≡ Same) ⊎ (e ≡ Onward) → l ≡ settled_of l e
+settled-given l e is = ⊎_elim (λ h. sym (ap (settled_of l) h)) (λ h. sym (ap (settled_of l) h)) is

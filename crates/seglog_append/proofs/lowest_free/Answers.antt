@@ -4,7 +4,7 @@ use Rattle.std.proofs.lemmas.Iterator.{serves_from_Range, first_from_Range}
 use Rattle.lists.proofs.Arrays.{unmapped}
 use Rattle.seglog.proofs.Fit.{Fitting, fitting-is, chain-few}
 use Rattle.seglog.proofs.Slots.{marked_none, slot-few, marked_next, marked_all}
-use Rattle.seglog_append.proofs.DecidingFree.{free-found}
+use Rattle.seglog_append.proofs.DecidingFree.{free-searched}
 use Rattle.seglog_append.proofs.lowest_free.Goals as goal
 
 pub shared_ref_as_front-listed : goal.shared_ref_as_front-listed
@@ -49,6 +49,6 @@ returns c =
     let l = c.args.log in
     let fit : Fitting l (l.k * l.c) = fitting-is l (l.k * l.c) (search (rules, unmapped)) c.requires in
     let marked = marked_all c.loop-g.used (take l.count l.segs) c.loop-g.g-index c.loop-g-test.false c.loop-g.invariant in
-    free-found l.k (take l.count l.segs) c.loop-g.used fit.sizes.few-slots marked _
+    free-searched l.k (take l.count l.segs) c.loop-g.used fit.sizes.few-slots marked _
     (first_from_Range _ _ _ _ (λ n. get_or c.loop-g.used n false ≡ false) (λ n. get_or c.loop-g.used n false ≡ true)
     c.find.ensures.ran (λ x q k. search rules) (λ x q k. search rules))
