@@ -1,13 +1,15 @@
 -- A scan of the sorted rows, on plain values: what it asks, what an accepted one keeps of any images, and what its ways ensure.
 -- Assumes nothing.
 use mathlib.Core.Path.{◌≡◌, refl, sym, ap, subst, ◌∙◌}
-use mathlib.Core.Bool.{true}
+use mathlib.Core.Bool.{Bool, true, false, not}
 use mathlib.Core.List.{List, [], ◌∷◌}
 use Prim.Native.Nat.{ℕ, ◌-◌, ◌*◌, ◌/◌, ◌%◌, ◌≤◌, ◌<◌}
 use native.Mathlib.Nat.{mul-le-mul_right, suc-mul}
 use native.Mathlib.Omega.{arith}
 use lib.ListN.{length, take, replicate, length-append}
 use lib.Seq.{take_at}
+use lib.Dec.{ltb}
+use Rattle.lists.specs.Choice.{◌⇒◌, first}
 use Rattle.lists.specs.Outcome.{Outcome, refused, done}
 use Rattle.lists.proofs.Outcome.{refused-injective, refused-is-not-done, done-injective}
 use Rattle.std.specs.Prelude.{Ok, Err}
@@ -17,7 +19,7 @@ use Rattle.segment.specs.declared.Segment.{Segment}
 use Rattle.seglog.specs.View.{log_of, head_of}
 use Rattle.segment.specs.Segment.{no_segment, padded_to}
 use Rattle.segment.specs.Chain.{InSlot}
-use Rattle.lists.proofs.Bools.{clash}
+use Rattle.lists.proofs.Bools.{clash, zero-is-not-one}
 use Rattle.seglog.proofs.Fit.{roomy-is}
 use Rattle.seglog.proofs.View.{entries_of, head-snoc}
 use Rattle.segment.specs.declared.ImageRow.{ImageRow}
@@ -27,7 +29,8 @@ use Rattle.walk.specs.Judging.{start_of}
 use Rattle.recovery_walk.specs.declared.Scanned.{Scanned}
 use Rattle.recovery_walk.specs.Images.{Found, walked, images, row_at, WalkPre}
 use Rattle.recovery_walk.specs.Rows.{rows_all, pen_of}
-use Rattle.recovery_walk.specs.Scan.{live_count, scan_of, scanned_of, index_of, ScanDid}
+use Rattle.recovery_walk.specs.Scan.{live_count, judged, scan_of, scanned_of, index_of, ScanDid}
+use Rattle.recovery_walk.proofs.Images.{images-number}
 use Rattle.recovery_walk.proofs.RowsIds.{Accepted, scan-accepted, scan-rows}
 use Rattle.recovery.specs.declared.Recovered.{Recovered}
 use Rattle.image_rows.specs.ImageRows.{rows_inside}
@@ -50,6 +53,25 @@ walk-pre area k c rs all few inside =
     }
 
 -- ---- the scan's outcome
+
+-- a scan's refusal has a number
+pub scan-number : (area : List ℕ) (c s e : ℕ) (rs : List ImageRow) (words m : ℕ) → scan_of area c s e rs words ≡ refused m → m ≡ 0 → ⊥
+unfolding scan_of judged
+scan-number area c s e rs words m q = by (images area c s e rs start_of) refl q
+  where
+    is : (n : ℕ) → n ≡ m → 16 ≤ n → m ≡ 0 → ⊥
+    is n e h z = omega arith
+
+    by : (o : Outcome Found) → images area c s e rs start_of ≡ o → judged s e words o ≡ refused m → m ≡ 0 → ⊥
+    by (refused n) p z = is n (cc) (images-number area c s e rs start_of n p).low
+    by (done (x, xs)) p z = go x.found_s x.found_e (ltb words (4 * live_count s e)) z
+      where
+        go : (a b t : Bool)
+            → first ((not a ⇒ refused 21) ∷ (not b ⇒ refused 22) ∷ (t ⇒ refused 23) ∷ []) (walked x xs) ≡ refused m → m ≡ 0 → ⊥
+        go false b t w = is 21 (cc) (omega arith)
+        go true false t w = is 22 (cc) (omega arith)
+        go true true true w = is 23 (cc) (omega arith)
+        go true true false w = zero-is-not-one (cc)
 
 -- what an accepted scan keeps
 pub record Keeps (k c s e i at x : ℕ) (gs : List Segment) : Type 0 where
