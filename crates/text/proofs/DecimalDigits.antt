@@ -2,7 +2,7 @@
 -- Assumes nothing.
 use mathlib.Core.Path.{◌≡◌, refl, sym, ap, ◌∙◌}
 use mathlib.Core.List.{List, [], ◌∷◌, ◌++◌, append_assoc, append-nil}
-use Prim.Native.Nat.{ℕ, suc, ◌+◌, ◌/◌, ◌%◌, ◌^◌, ◌<◌}
+use Prim.Native.Nat.{ℕ, zero, suc, ◌+◌, ◌/◌, ◌%◌, ◌^◌, ◌≤◌, ◌<◌}
 use native.Mathlib.Nat.{div-lt_iff_lt-mul, zero-lt-suc, pow-suc}
 use native.Mathlib.Numerals.{add-one}
 use native.Mathlib.Omega.{arith}
@@ -25,6 +25,12 @@ placed-begins v digits small long =
       small = omega arith;
       whole = rw (drop_of_length-le digits {i = 20} (omega arith)) (append-nil (decimal_in 20 v));
     }
+
+-- more than one digit: more than one place is left
+pub placed-more : {v rest : ℕ} (n : ℕ) {digits : List ℕ} → 10 ≤ rest → Placed v rest n digits → 1 < n
+placed-more zero h p = absurd (omega (arith, p.small))
+placed-more (suc zero) h p = absurd (omega (arith, p.small))
+placed-more (suc (suc n)) h p = omega arith
 
 -- a digit between what is before it and what is behind it
 between : (a : List ℕ) (g : ℕ) (b : List ℕ) → a ++ (g ∷ b) ≡ (a ++ (g ∷ [])) ++ b
