@@ -1,2 +1,3 @@
 pub mod Refusals
 pub mod Promised
+pub mod Words

@@ -97,6 +97,11 @@ impl Refusal {
 
 // Document 01's words.
 impl fmt::Display for Refusal {
+    ghost use Rattle.std.specs.Prelude.{Some};
+    ghost use Rattle.refusal.specs.Words.{words};
+
+    ghost output = { λ r. Some (words r) };
+
     fn fmt<W: fmt::Write>(&self, f: &mut fmt::Formatter<W>) -> fmt::Result {
         let words = match self {
             Refusal::OutsideRules => "K, C, M or area length outside the rules",
