@@ -1,13 +1,13 @@
 // The images as files: FOLDER/scans.0000000001.log holds the first `size` bytes of a segment's slot, as the original's files do.
 // Files are made anew and never overwritten; what is removed was made here. A read that fails ends what is read of a file.
-ghost use Rattle.std.specs.Prelude.{◌<◌};
+ghost use Rattle.std.specs.Prelude.{◌<◌, ◌≤◌, length};
 
 use image_rows::Rows;
 use payload::IndexRow;
 use seglog::Log;
 use segment::{ImageRow, Segment};
 use std::fs::{File, Files, OpenOptions};
-use std::io::Write;
+use std::io::{Read, Write};
 use std::{fs, io};
 
 // The name of a segment's file over the front of the room.
@@ -86,13 +86,28 @@ pub(crate) fn save(
     Ok(log.count)
 }
 
+// Reads until the buffer is full, the file ends or a read fails; how many bytes came.
+fn read_full(file: &mut impl Read, buffer: &mut [u8]) -> usize
+    ensures { result ≤ length buffer.new }
+{
+    let mut done: usize = 0;
+    while done < buffer.len() {
+        let n = file.read(&mut buffer[done..]).unwrap_or(0);
+        if n == 0 {
+            break;
+        }
+        done += n;
+    }
+    done
+}
+
 // Reads a segment's file into its slot; how many bytes came, nothing where it cannot be opened.
 fn read_into(rt: &impl Files, folder: &[u8], id: u32, slot: &mut [u8]) -> Option<usize> {
     let mut path = [0u8; 4096];
     let n = file_path(folder, id, &mut path);
     let name = str::from_utf8(slices::front(&path, n)).ok()?;
     let mut file = File::open(rt, name).ok()?;
-    Some(folders::read_full(&mut file, slot))
+    Some(read_full(&mut file, slot))
 }
 
 // Reads the files of the log's segments, each into a slot of c bytes: their image rows.

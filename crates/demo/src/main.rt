@@ -108,7 +108,15 @@ fn rows_and_texts(
             offset,
             length,
         };
-        print!(rt; "{id} {slot} {offset} {length} ")?;
+        let mut line = [0u8; 128];
+        let mut text = Text {
+            out: &mut line,
+            end: 0,
+        };
+        listing::row(row, &mut text);
+        text.put(b" ");
+        let end = text.end;
+        rt.write_all(slices::front(&line, end))?;
         rt.write_all(payload::payload(log, area, row))?;
         println!(rt)?;
     }

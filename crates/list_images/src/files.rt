@@ -1,6 +1,6 @@
 // The images' files: how large each is, and its bytes.
 // A path that does not fit its buffer is no path, nor is one that is no UTF-8 text.
-ghost use Rattle.std.specs.Prelude.{◌<◌};
+ghost use Rattle.std.specs.Prelude.{◌<◌, ◌≤◌, length};
 
 use crate::lines::Folder;
 use image_rows::Rows;
@@ -36,12 +36,27 @@ pub(crate) fn measure(rt: &impl Files, folder: &[u8], name: &[u8], limit: usize)
     read_to_end(&mut file, limit).ok()
 }
 
+// Reads until the buffer is full, the file ends or a read fails; how many bytes came.
+pub(crate) fn read_full(file: &mut impl Read, buffer: &mut [u8]) -> usize
+    ensures { result ≤ length buffer.new }
+{
+    let mut done: usize = 0;
+    while done < buffer.len() {
+        let n = file.read(&mut buffer[done..]).unwrap_or(0);
+        if n == 0 {
+            break;
+        }
+        done += n;
+    }
+    done
+}
+
 // Reads a file into a slot; whether it has so many bytes, and no more.
 fn read_into(rt: &impl Files, folder: &[u8], name: &[u8], slot: &mut [u8], size: u64) -> bool {
     let Some(mut file) = open(rt, folder, name) else {
         return false;
     };
-    let n = folders::read_full(&mut file, slot);
+    let n = read_full(&mut file, slot);
     let mut more = [0u8; 1];
     n as u64 == size && matches!(file.read(&mut more), Ok(0))
 }

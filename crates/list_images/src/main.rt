@@ -128,7 +128,7 @@ fn work(rt: &(impl Env + Files + Input + Print), area: &mut [u8]) -> io::Result<
         return println!(rt; "usage: list_images FOLDER PREFIX [S E] <NAMES");
     };
     let mut names = [0u8; 65536];
-    let length = folders::read_full(&mut rt.reader(), &mut names);
+    let length = files::read_full(&mut rt.reader(), &mut names);
     if length == 65536 {
         return println!(rt; "refused: more than 65535 bytes of names");
     }
