@@ -13,6 +13,14 @@ static iflughan_delta table;
 static iflughan_index_row rows[2];
 static uint32_t refusal;
 
+/* Sixty-four images of a page, their ids in an order at which a sort that calls itself goes twelve deep. */
+static const uint8_t deep[IFLUGHAN_MOST_SLOTS] = {
+    61, 16, 15, 34, 56, 1, 31, 49, 44, 12, 35, 27, 20, 11, 4, 2, 62, 41, 37, 5, 22, 10, 51, 28, 32, 8, 46, 48, 38, 21, 53, 23, 63, 47, 55,
+    19, 50, 13, 7, 59, 33, 39, 9, 30, 3, 29, 26, 52, 40, 36, 42, 45, 43, 24, 14, 17, 25, 64, 18, 54, 6, 60, 57, 58};
+static uint8_t many_area[IFLUGHAN_MOST_SLOTS * 4096];
+static iflughan_image many[IFLUGHAN_MOST_SLOTS];
+static iflughan_index_row many_rows[IFLUGHAN_MOST_SLOTS];
+
 static void call_new(void) { refusal = iflughan_new(K, C, M, area, AREA).refusal; }
 static void call_append(void) {
     iflughan_appended answer = iflughan_append(log_value, area, AREA, (const uint8_t *)"abc", 3);
@@ -25,6 +33,10 @@ static void call_prune_recent_walked(void) { refusal = iflughan_prune_recent(one
 static void call_recover(void) {
     iflughan_image images[] = {{2, 1, 4096}, {1, 0, 4096}};
     refusal = iflughan_recover(K, C, M, area, AREA, images, 2, 1, 2, (uint64_t *)rows, 2 * IFLUGHAN_ROW_WORDS).refusal;
+}
+static void call_recover_many(void) {
+    enum { N = IFLUGHAN_MOST_SLOTS };
+    refusal = iflughan_recover(N, 4096, 0, many_area, sizeof many_area, many, N, 1, N, (uint64_t *)many_rows, N * IFLUGHAN_ROW_WORDS).refusal;
 }
 static void call_row_question(void) {
     refusal = iflughan_row_question(log_value, area, AREA, rows[1].id, rows[1].slot, rows[1].offset, rows[1].length);
@@ -44,6 +56,16 @@ static void fill_table(void) {
         table.rows[i].key[0] = (uint8_t)(i * 37);
         table.rows[i].present = i % 2;
         table.rows[i].length = 3;
+    }
+}
+
+/* A record in each segment. */
+static void fill_many(void) {
+    iflughan_log log = iflughan_new(IFLUGHAN_MOST_SLOTS, 4096, 0, many_area, sizeof many_area).log;
+    for (unsigned i = 0; i < IFLUGHAN_MOST_SLOTS; i++) log = iflughan_append(log, many_area, sizeof many_area, (const uint8_t *)"abc", 3).log;
+    for (unsigned i = 0; i < IFLUGHAN_MOST_SLOTS; i++) {
+        iflughan_segment segment = log.segments[deep[i] - 1];
+        many[i] = (iflughan_image){segment.id, segment.slot, segment.size};
     }
 }
 
@@ -79,6 +101,7 @@ static int wrong(const char *name, void (*call)(void), size_t said) {
 int main(void) {
     fill_table();
     fill_one_segment();
+    fill_many();
     log_value = iflughan_new(K, C, M, area, AREA).log;
     return wrong("new", call_new, IFLUGHAN_STACK_NEW) |
            wrong("append", call_append, IFLUGHAN_STACK_APPEND) | /* twice: records 1 and 2, each in a segment of its own */
@@ -86,6 +109,7 @@ int main(void) {
            wrong("prune_recent", call_prune_recent, IFLUGHAN_STACK_PRUNE_RECENT) | /* at a segment's newest record */
            wrong("prune_recent", call_prune_recent_walked, IFLUGHAN_STACK_PRUNE_RECENT) |
            wrong("recover", call_recover, IFLUGHAN_STACK_RECOVER) |
+           wrong("recover", call_recover_many, IFLUGHAN_STACK_RECOVER) |
            wrong("row_question", call_row_question, IFLUGHAN_STACK_ROW_QUESTION) |
            wrong("payload", call_payload, IFLUGHAN_STACK_PAYLOAD) |
            wrong("name_write", call_name_write, IFLUGHAN_STACK_NAME_WRITE) |

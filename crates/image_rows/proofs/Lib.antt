@@ -5,3 +5,4 @@ pub mod Apart
 pub mod Sorted
 pub mod ArrangeWays
 pub mod Unique
+pub mod SortTurns
