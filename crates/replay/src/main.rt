@@ -143,6 +143,8 @@ fn total(counts: &[u64; 13]) -> u64 {
     sum
 }
 
+// Never inlined: where the file cannot be opened its arrays are not needed, and must not stand on the stack.
+#[inline(never)]
 fn run(rt: &impl Print, file: &mut File, payload: &mut [u8]) -> io::Result<()> {
     let mut counts = [0u64; 13];
     let mut area = [0u8; 65536];
