@@ -62,6 +62,10 @@ pub(crate) fn walk_images(
     }
     match fault {
         Some(refusal) => Err(refusal),
-        None => Ok(scan),
+        // field by field: a copy of the whole state would carry its padding from record to record
+        None => Ok(Scan {
+            gap: scan.gap,
+            ..scan
+        }),
     }
 }

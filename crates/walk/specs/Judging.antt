@@ -30,7 +30,7 @@ abbrev pub read_at : ℕ → Result RecordHeader Refusal → Result Placed Refus
 read_at pos (Ok h) = pick (ltb max_payload h.length) (Err HeaderTooLong) (Ok (placed_of pos h.length h.id))
 read_at pos (Err r) = Err r
 
--- 17 where it does not fit, whatever the answer; else 17 or 18 from the answer, or the record
+-- 17 where it does not fit, whatever the answer; else what the answer says: 17 or 18 where `read_header` gives it, or the record
 unfoldable pub record_at : (size pos : ℕ) → Result RecordHeader Refusal → Result Placed Refusal
 record_at size pos h = pick (header_fits size pos) (read_at pos h) (Err ShortHeader)
 

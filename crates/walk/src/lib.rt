@@ -141,7 +141,8 @@ pub fn record_at(
     Ok(parts::placed(pos, header))
 }
 
-// The header's answer at the state's place of an image of `size` bytes: 17 to 20, or the state after the record.
+// The header's answer at the state's place of an image of `size` bytes: 17 to 20 where it is one that `read_header` gives, or the state after
+// the record.
 #[tactic(auto, unfolding(crate::specs::Judging::judge_of, crate::specs::Judging::judge_record))]
 pub fn judge(
     size: u64,
@@ -155,7 +156,8 @@ pub fn judge(
     parts::judge_record(size, range, state, found)
 }
 
-// The record at the state's place in an image.
+// The record at the state's place in an image. Inlined into the loops, so that the state from record to record is not copied.
+#[inline(always)]
 pub fn record_step(img: &[u8], range: Range, state: Scan) -> Result<Scan, Refusal>
     ensures { result ≡ record_step img.now range.s range.e state }
 {
