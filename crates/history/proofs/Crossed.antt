@@ -21,10 +21,11 @@ use Rattle.seglog_prune.specs.Prune.{
 }
 use Rattle.seglog_prune.proofs.Decide.{Inner, prune-passes, prune-refuses-9}
 use Rattle.history.specs.Corollaries.{EndsCrossed, SecondRefused}
-use Rattle.history.specs.History.{run, recent, oldest, step, refusal_of, after_prune, Held, last_under, begun}
+use Rattle.history.specs.Demand.{prunes_to}
+use Rattle.history.specs.History.{recent, oldest, step, refusal_of, after_prune, Held, last_under, begun}
 use Rattle.history.proofs.Invariant.{Holds, some-live}
 use Rattle.history.proofs.Prunes.{oldest-holds}
-use Rattle.history.proofs.Runs.{Any, held_of, recent-log, oldest-log, Came, runs-keep, on-view}
+use Rattle.history.proofs.Runs.{Any, held_of, recent-log, oldest-log, Came, runs-keep, run-two, on-view}
 
 module _ (a : View) (area : List ℕ) (f : ℕ → List ℕ) (h : Holds a area f) (s e : ℕ) (from : a.start ≤ e) (crossed : e < s)
     (to : s ≤ a.end)
@@ -62,14 +63,13 @@ module _ (a : View) (area : List ℕ) (f : ℕ → List ℕ) (h : Holds a area f
   after_first = ap (after_prune (held_of a area)) first-prune
 
   second-refused : SecondRefused (held_of a area) s e
-  unfolding run
   second-refused =
       record {
         first-accepts = ap (λ (r : Outcome Pruned). (prune_answer (held_of a area).log r).refusal) first-prune;
         second-refuses = ap (λ (x : Held). refusal_of x (recent e)) after_first
             ∙ ap (λ (r : Outcome Pruned). (prune_answer (held_of older area).log r).refusal) second-prune;
-        as-the-first-left-it = ap (λ (x : Held). step x (recent e)) after_first
-            ∙ ap (after_prune (held_of older area)) second-prune ∙ sym after_first;
+        as-the-first-left-it = run-two (held_of a area) (oldest s) (recent e) (prunes_to s e) refl
+            ∙ ap (λ (x : Held). step x (recent e)) after_first ∙ ap (after_prune (held_of older area)) second-prune ∙ sym after_first;
       }
 
 -- where e lies before s, the second prune is refused

@@ -19,7 +19,7 @@ use Rattle.history.proofs.Invariant.{Holds, some-live}
 use Rattle.history.proofs.Later.{After, Grows, ended-grows}
 use Rattle.seglog_prune.proofs.Decide.{Inner, prune-passes, pruned-same}
 use Rattle.history.proofs.Prunes.{New, at_new, ended_view, ended-holds, recent-is}
-use Rattle.history.proofs.Runs.{Any, held_of, recent-log, oldest-log, Came, runs-keep, on-view}
+use Rattle.history.proofs.Runs.{Any, held_of, recent-log, oldest-log, Came, runs-keep, run-two, on-view}
 use Rattle.history.proofs.Slots.{Stored}
 use Rattle.history.proofs.Brings.{Brings, recovered-log}
 use Rattle.history.proofs.Views.{brings}
@@ -90,7 +90,6 @@ module _ (a : View) (area : List ℕ) (f : ℕ → List ℕ) (h : Holds a area f
         ∙ ap (prune_recent_of from_cut.older true area) end ∙ from_cut.then)
 
     both-orders : run (held_of a area) (recent e ∷ oldest s ∷ []) ≡ run (held_of a area) (prunes_to s e)
-    unfolding run
     both-orders =
         let l : View = from-self.log in
         let first-cut : step (held_of a area) (recent e) ≡ held_of cut area =
@@ -102,8 +101,10 @@ module _ (a : View) (area : List ℕ) (f : ℕ → List ℕ) (h : Holds a area f
         let then-cut : step (held_of from-self.older area) (recent e) ≡ held_of l area =
         ap (after_prune (held_of from-self.older area))
         (recent-log from-self.older area f from-self.older-holds e ∙ from-self.then) in
-        ap (λ (x : Held). step x (oldest s)) first-cut ∙ then-old ∙ ap (λ (x : View). held_of x area) (no-second-cut ∙ one-log)
-        ∙ sym (ap (λ (x : Held). step x (recent e)) first-old ∙ then-cut)
+        run-two (held_of a area) (recent e) (oldest s) (recent e ∷ oldest s ∷ []) refl
+        ∙ ap (λ (x : Held). step x (oldest s)) first-cut ∙ then-old ∙ ap (λ (x : View). held_of x area) (no-second-cut ∙ one-log)
+        ∙ sym (run-two (held_of a area) (oldest s) (recent e) (prunes_to s e) refl
+        ∙ ap (λ (x : Held). step x (recent e)) first-old ∙ then-cut)
 
 -- the two prunes may be made in either order
 pub prunes-in-either-order : PrunesInEitherOrder

@@ -160,6 +160,11 @@ unfolding run told
 run-keeps [] t f c = c
 run-keeps (call ∷ calls) t f c = run-keeps calls (step t call) (heard_call f t call) (step_keeps t f c call)
 
+-- a run of two calls is the one, and then the other
+pub run-two : (t : Held) (one other : Call) (calls : List Call) → calls ≡ one ∷ other ∷ [] → run t calls ≡ step (step t one) other
+unfolding run
+run-two t one other calls two = ap (run t) two
+
 -- ---- a new log
 
 -- a new log that is accepted is the empty one, over K x C bytes

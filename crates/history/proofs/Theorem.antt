@@ -18,7 +18,7 @@ use Rattle.history.specs.History.{run, oldest, recent, step, after_prune, Held, 
 use Rattle.history.proofs.IndexRows.{rows_are}
 use Rattle.history.proofs.Invariant.{Holds}
 use Rattle.history.proofs.Later.{After, appends-after, after-refl}
-use Rattle.history.proofs.Runs.{held_of, oldest-log, recent-log, Came, Any, listed-log, on-view, runs-keep}
+use Rattle.history.proofs.Runs.{held_of, oldest-log, recent-log, Came, Any, listed-log, on-view, run-two, runs-keep}
 use Rattle.history.proofs.Brings.{Brings}
 use Rattle.history.proofs.Views.{brings}
 
@@ -26,7 +26,6 @@ use Rattle.history.proofs.Views.{brings}
 delivers-views : (a : View) (area : List ℕ) (z : View) (area' : List ℕ) (f : ℕ → List ℕ) (rows : List ImageRow) (s e : ℕ) (index : List ℕ)
     → 4 * ids_in s e ≤ length index → Holds a area f → Brings a area z area' f rows s e (length index)
     → Delivers (held_of a area) (held_of z area') f s e index (recovering (held_of z area') rows s e index)
-unfolding run
 delivers-views a area z area' f rows s e index room h d =
     let r : Recovery = recovered d.log area' d.words in
     let index' : List ℕ = d.words ++ drop (length d.words) index in
@@ -36,7 +35,7 @@ delivers-views a area z area' f rows s e index room h d =
     recent-log d.older area f d.older-holds e ∙ d.then in
     let between : step (held_of a area) (oldest s) ≡ held_of d.older area = ap (after_prune (held_of a area)) old in
     let after : run (held_of a area) (prunes_to s e) ≡ held_of d.log area =
-    ap (λ (x : Held). step x (recent e)) between ∙ ap (after_prune (held_of d.older area)) new in
+    run-two (held_of a area) (oldest s) (recent e) (prunes_to s e) refl ∙ ap (λ (x : Held). step x (recent e)) between ∙ ap (after_prune (held_of d.older area)) new in
     let row = rows_are (log_of d.log) area' f (ids_in s e) s d.words (drop (length d.words) index) d.count d.payloads in
     let long : length index' ≡ length index =
     length-append d.words (drop (length d.words) index) ∙ omega (arith, length-drop (length d.words) index) in
