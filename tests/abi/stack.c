@@ -13,7 +13,7 @@ static iflughan_delta table;
 static iflughan_index_row rows[2];
 static uint32_t refusal;
 
-/* Sixty-four images of a page, their ids in an order at which a sort that calls itself goes twelve deep. */
+/* Sixty-four images of a page, their ids in an order that makes a quicksort nest deeply. */
 static const uint8_t deep[IFLUGHAN_MOST_SLOTS] = {
     61, 16, 15, 34, 56, 1, 31, 49, 44, 12, 35, 27, 20, 11, 4, 2, 62, 41, 37, 5, 22, 10, 51, 28, 32, 8, 46, 48, 38, 21, 53, 23, 63, 47, 55,
     19, 50, 13, 7, 59, 33, 39, 9, 30, 3, 29, 26, 52, 40, 36, 42, 45, 43, 24, 14, 17, 25, 64, 18, 54, 6, 60, 57, 58};
