@@ -1,4 +1,5 @@
 pub mod Order
+pub mod Spelt
 pub mod Place
 pub mod Sorting
 pub mod Ranks
