@@ -1,4 +1,4 @@
--- Two answers of `path_into`, and two contents of the lent buffer, that its contract allows are equal.
+-- Two answers of `path_into`, and two contents of the lent buffer, that its contract allows are equal. (What a file gives is in no contract.)
 -- Assumes nothing.
 use Rattle.lists.specs.Unique.{UniqueBoth}
 use Rattle.text.proofs.Unique.{text-unique}
